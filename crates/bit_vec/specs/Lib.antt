@@ -1,0 +1,2 @@
+-- What the contracts of `bit_vec` cite.
+pub mod Moves

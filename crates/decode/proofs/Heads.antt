@@ -1,0 +1,56 @@
+-- Behind a count: the head of a bit vector or a vector, and what follows it.
+use mathlib.Core.List.{List, [], _∷_}
+use mathlib.Core.Path.{_≡_, ap, sym, _∙_, ap₂}
+use Prim.Native.Nat.{ℕ, _+_}
+use native.Mathlib.Omega.{arith}
+use lib.Seq.{sets}
+use Rattle.rules.specs.Cells.{cells}
+use Rattle.rules.specs.Parser.{Res, got, bad}
+use Rattle.rules.specs.Scan.Accept.{answer}
+use Rattle.rules.specs.Scan.Pass.{Pass, passNone, passing, entryPass, landed}
+use Rattle.rules.specs.Scan.Single.{Entering, entry-stopped, entry-done}
+use Rattle.rules.specs.Trace.{Head, enter}
+use Rattle.rules.specs.declared.Limits.{Limits}
+use Rattle.rules.specs.declared.Refusal.{Refusal}
+use Rattle.rules.specs.declared.Scan.{Scan}
+use Rattle.rules.specs.declared.Scan.the-variants.{Done as done, Refused as stopped}
+use Rattle.rules.specs.declared.Totals.{Totals}
+use Rattle.decode.proofs.Landing.{lands-behind}
+use Rattle.decode.specs.Taken.{countOf}
+use Rattle.decode.specs.declared.leaf.Count.{Count}
+use Rattle.decode.specs.declared.leaf.Count.the-variants.{Of as counts, Refused as noCount}
+use Rattle.decode.proofs.Landing.{lands-behind}
+
+pub count-got : (r : Res ℕ) (q : Count) (n u : ℕ) → q ≡ countOf r → q ≡ counts n u → r ≡ got n u
+unfolding countOf
+count-got (got v m) q n u e f =
+    let g : counts v m ≡ counts n u = sym e ∙ f in
+    let a : v ≡ n = cc in
+    let b : m ≡ u = cc in
+    ap₂ got a b
+count-got (bad y) q n u e f = absurd (let g : noCount y ≡ counts n u = sym e ∙ f in let z : _≡_ {A = ℕ} 0 1 = cc in omega arith)
+
+pub count-bad : (r : Res ℕ) (q : Count) (y : Refusal) → q ≡ countOf r → q ≡ noCount y → r ≡ bad y
+unfolding countOf
+count-bad (got v m) q y e f = absurd (let g : counts v m ≡ noCount y = sym e ∙ f in let z : _≡_ {A = ℕ} 0 1 = cc in omega arith)
+count-bad (bad x) q y e f = let g : noCount x ≡ noCount y = sym e ∙ f in let a : x ≡ y = cc in ap bad a
+
+-- what was entered: the cells, and where it goes on
+module _ (lim : Limits) (st : Totals) (h : Head) (e : ℕ) (u : Totals) (e′ : ℕ) (r : Scan) (l m : List ℕ) (f : (r ≡ entryPass lim st h e .answer) × (m ≡ landed l st (entryPass lim st h e))) where
+  pub head-stops : (y : Refusal) → r ≡ stopped y → (k : Totals → Pass) (p : Pass) → p ≡ passing lim st (enter h) k → (stopped y ≡ p .answer) × (m ≡ landed l st p)
+  unfolding landed
+  head-stops y q k p g =
+      let a : p ≡ passNone (stopped y) = g ∙ entry-stopped lim st h e y (sym (f .0) ∙ q) k in
+      let b : entryPass lim st h e ≡ passNone (stopped y) = (unfold entryPass in entry-stopped lim st h e y (sym (f .0) ∙ q) (λ u. passNone (done u e))) in
+      (sym (ap (λ (x : Pass). x .answer) a), f .1 ∙ ap (λ (x : Pass). sets l (st .cells) (x .cells)) (b ∙ sym a))
+
+  pub head-enters : r ≡ done u e′ → Entering lim st h e u e′
+  head-enters q = entry-done lim st h e u e′ (sym (f .0) ∙ q)
+
+  -- what goes on from there lands behind the count
+  pub head-goes : r ≡ done u e′ → (k : Totals → Pass) (p : Pass) (r′ : Scan) (m′ : List ℕ) → p ≡ passing lim st (enter h) k → (r′ ≡ k u .answer) × (m′ ≡ landed m u (k u))
+      → (r′ ≡ p .answer) × (m′ ≡ landed l st p)
+  head-goes q k p r′ m′ g w =
+      let E = head-enters q in
+      let c : u .cells ≡ st .cells + 1 = ap (λ (x : Totals). x .cells) (E .totals) in
+      lands-behind p (k u) (h .cell ∷ []) l m m′ st u r′ (g ∙ E .goes k) (f .1 ∙ (unfold landed in ap (sets l (st .cells)) (E .cells))) c w

@@ -1,0 +1,5 @@
+pub mod Names
+pub mod Nodes
+pub mod Laws
+pub mod Units
+pub mod Filling
