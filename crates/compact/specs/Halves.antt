@@ -40,7 +40,7 @@ padded l = record { bytes = l ++ replicate (17 - length l) 0; len = length l }
 abbrev pub front : Encoded → List ℕ
 front e = take (e .len) (e .bytes)
 
--- an answer as document 01 gives it: its number, and 0 in each other field of a refusal
+-- an answer by its fields: its number, and 0 in each other field of a refusal
 pub record Fields : Type 0 where
   pub number : ℕ
   pub low : ℕ

@@ -1,0 +1,79 @@
+-- Demands 1 and 3 about the public functions' own answers: r is any answer that the contract allows, and m what the lent cells l are afterwards.
+use mathlib.Core.List.{List, _++_}
+use mathlib.Core.Logic.{_⊎_, inl, inr, ⊎-elim}
+use mathlib.Core.Path.{_≡_, ap, sym, _∙_, subst}
+use Prim.Native.Nat.{ℕ, _^_, _≤_, _<_}
+use lib.ListN.{length}
+use Rattle.rules.specs.Basics.{onto}
+use Rattle.rules.specs.Cells.{cells}
+use Rattle.rules.specs.Demands.{front-accepts, front-accepted, front-cells, whole-accepted, front-wider, cut-wider, front-grown, whole-decided}
+use Rattle.rules.specs.Form.Laws.{reads}
+use Rattle.rules.specs.Jobs.{readFront, readWhole, cutTo, cellsAfter}
+use Rattle.rules.specs.Scan.{scan, scanned}
+use Rattle.rules.specs.Scan.Accept.{Accepted, answer, passed}
+use Rattle.rules.specs.Scan.Barred.{Wider}
+use Rattle.rules.specs.Scan.Steady.{ByLimit, Short}
+use Rattle.rules.specs.Table.{root}
+use Rattle.rules.specs.Table.Laws.{Good}
+use Rattle.rules.specs.Types.{Val}
+use Rattle.rules.specs.declared.Limits.{Limits}
+use Rattle.rules.specs.declared.Refusal.{Refusal}
+use Rattle.rules.specs.declared.Scan.{Scan}
+use Rattle.rules.specs.declared.Scan.the-variants.{Done as done, Refused as stopped}
+use Rattle.rules.specs.declared.Totals.{Totals}
+
+-- ---- into lent cells
+
+-- what the contracts of `read_front` and `read_whole` say, for the job f
+pub record Contract (f : List ℕ → List ℕ → Limits → Scan) (tb s : List ℕ) (lim : Limits) (l : List ℕ) (r : Scan) (m : List ℕ) : Type 0 where
+  pub answers : r ≡ f tb s (cutTo (length l) lim)
+  pub writes : m ≡ cellsAfter (scanned (root tb) (cutTo (length l) lim) s) r l
+
+-- any two answers that it allows are equal, and so are the cells
+pub one-reading : (f : List ℕ → List ℕ → Limits → Scan) (tb s : List ℕ) (lim : Limits) (l : List ℕ) (r r′ : Scan) (m m′ : List ℕ)
+    → Contract f tb s lim l r m → Contract f tb s lim l r′ m′ → (r ≡ r′) × (m ≡ m′)
+one-reading f tb s lim l r r′ m m′ c d =
+    let e : r ≡ r′ = c .answers ∙ sym (d .answers) in
+    (e, c .writes ∙ ap (λ x. cellsAfter (scanned (root tb) (cutTo (length l) lim) s) x l) e ∙ sym (d .writes))
+
+-- DEMAND 1: a refusal leaves the lent cells as they were
+pub refusal-leaves : (f : List ℕ → List ℕ → Limits → Scan) (tb s : List ℕ) (lim : Limits) (l : List ℕ) (r : Scan) (m : List ℕ) (y : Refusal) → Contract f tb s lim l r m → r ≡ stopped y → m ≡ l
+refusal-leaves f tb s lim l r m y c e = c .writes ∙ ap (λ x. cellsAfter (scanned (root tb) (cutTo (length l) lim) s) x l) e
+
+module _ (tb s : List ℕ) (lim : Limits) (l : List ℕ) (r : Scan) (m : List ℕ) (M : lim .memory < 2 ^ 64) where
+  -- DEMAND 3: accepted exactly if ..; then the value's cells stand at the front of the lent ones, and the others stay
+  pub read-accepts : Contract readFront tb s lim l r m → Good tb → (v : Val (root tb)) (n : ℕ) → Accepted (root tb) (cutTo (length l) lim) s v n
+      → (r ≡ done (answer (root tb) v) n) × (m ≡ onto (cells (root tb) v) l)
+  read-accepts c g v n a =
+      let e : readFront tb s (cutTo (length l) lim) ≡ done (answer (root tb) v) n = front-accepts tb s (cutTo (length l) lim) M g v n a in
+      let q : r ≡ done (answer (root tb) v) n = c .answers ∙ e in
+      (q, c .writes ∙ ap (λ x. cellsAfter (scanned (root tb) (cutTo (length l) lim) s) x l) q ∙ ap (λ x. onto x l) (front-cells tb s (cutTo (length l) lim) (answer (root tb) v) n v n e (a .reads)))
+
+  pub read-accepted : Contract readFront tb s lim l r m → (u : Totals) (n : ℕ) → r ≡ done u n
+      → Good tb × ((v : Val (root tb)) × Accepted (root tb) (cutTo (length l) lim) s v n × (u ≡ answer (root tb) v) × (m ≡ onto (cells (root tb) v) l))
+  read-accepted c u n e =
+      let q = front-accepted tb s (cutTo (length l) lim) M u n (sym (c .answers) ∙ e) in
+      let v = q .1 .0 in
+      (q .0, (v, q .1 .1, q .1 .2, read-accepts c (q .0) v n (q .1 .1) .1))
+
+  -- the same of a whole message
+  pub whole-read-accepted : Contract readWhole tb s lim l r m → (u : Totals) (n : ℕ) → r ≡ done u n
+      → Good tb × ((v : Val (root tb)) × Accepted (root tb) (cutTo (length l) lim) s v (length s) × (u ≡ answer (root tb) v) × (n ≡ length s) × (m ≡ onto (cells (root tb) v) l))
+  whole-read-accepted c u n e =
+      let w = whole-accepted tb s (cutTo (length l) lim) M u n (sym (c .answers) ∙ e) in
+      let v = w .1 .0 in
+      let d : scan (root tb) (cutTo (length l) lim) s ≡ done u n = whole-decided tb s (cutTo (length l) lim) u n (sym (c .answers) ∙ e) .1 in
+      let k : m ≡ onto (scanned (root tb) (cutTo (length l) lim) s) l = c .writes ∙ ap (λ x. cellsAfter (scanned (root tb) (cutTo (length l) lim) s) x l) e in
+      (w .0, (v, w .1 .1, w .1 .2, w .1 .3, k ∙ ap (λ x. onto x l) (passed (root tb) (cutTo (length l) lim) s v u (length s) n (w .1 .1 .reads) d)))
+
+-- larger limits and more lent cells change only a refusal by a limit
+pub read-wider : (tb s : List ℕ) (lim lim′ : Limits) (l l′ : List ℕ) (r r′ : Scan) (m m′ : List ℕ) → Contract readFront tb s lim l r m → Contract readFront tb s lim′ l′ r′ m′
+    → Wider lim lim′ → length l ≤ length l′ → (r ≡ r′) ⊎ ByLimit r
+read-wider tb s lim lim′ l l′ r r′ m m′ c d w h =
+    ⊎-elim (λ e. inl (c .answers ∙ e ∙ sym (d .answers))) (λ e. inr (subst ByLimit (sym (c .answers)) e))
+    (front-wider tb s (cutTo (length l) lim) (cutTo (length l′) lim′) (cut-wider lim lim′ (length l) (length l′) w h))
+
+-- added bytes change only a refusal as short
+pub read-grown : (tb s x : List ℕ) (lim : Limits) (l : List ℕ) (r r′ : Scan) (m m′ : List ℕ) → Contract readFront tb s lim l r m → Contract readFront tb (s ++ x) lim l r′ m′ → (r ≡ r′) ⊎ Short r
+read-grown tb s x lim l r r′ m m′ c d =
+    ⊎-elim (λ e. inl (c .answers ∙ e ∙ sym (d .answers))) (λ e. inr (subst Short (sym (c .answers)) e)) (front-grown tb s x (cutTo (length l) lim))
