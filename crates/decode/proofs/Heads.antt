@@ -4,9 +4,7 @@ use mathlib.Core.Path.{_≡_, ap, sym, _∙_, ap₂}
 use Prim.Native.Nat.{ℕ, _+_}
 use native.Mathlib.Omega.{arith}
 use lib.Seq.{sets}
-use Rattle.rules.specs.Cells.{cells}
 use Rattle.rules.specs.Parser.{Res, got, bad}
-use Rattle.rules.specs.Scan.Accept.{answer}
 use Rattle.rules.specs.Scan.Pass.{Pass, passNone, passing, entryPass, landed}
 use Rattle.rules.specs.Scan.Single.{Entering, entry-stopped, entry-done}
 use Rattle.rules.specs.Trace.{Head, enter}
@@ -19,7 +17,6 @@ use Rattle.decode.proofs.Landing.{lands-behind}
 use Rattle.decode.specs.Taken.{countOf}
 use Rattle.decode.specs.declared.leaf.Count.{Count}
 use Rattle.decode.specs.declared.leaf.Count.the-variants.{Of as counts, Refused as noCount}
-use Rattle.decode.proofs.Landing.{lands-behind}
 
 pub count-got : (r : Res ℕ) (q : Count) (n u : ℕ) → q ≡ countOf r → q ≡ counts n u → r ≡ got n u
 unfolding countOf

@@ -13,7 +13,6 @@ use Rattle.rules.specs.declared.Scan.{Scan}
 use Rattle.rules.specs.declared.Scan.the-variants.{Done as done, Refused as stopped}
 use Rattle.rules.specs.declared.Totals.{Totals}
 use Rattle.decode.proofs.Stores.{sets-join}
-use Rattle.decode.proofs.Stores.{sets-join}
 
 pub stops : (p : Pass) (y : Refusal) (r : Scan) (l : List ℕ) (st : Totals) → p ≡ passNone (stopped y) → r ≡ stopped y → (r ≡ p .answer) × (l ≡ landed l st p)
 unfolding landed

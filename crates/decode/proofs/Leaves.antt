@@ -8,7 +8,6 @@ use native.Mathlib.Omega.{arith}
 use borrow.Author.Tests.{lt-ltb, le-ltb}
 use lib.Dec.{lit≤}
 use lib.ListN.{length, drop, take, getD}
-use lib.Pow.{low, high}
 use Rattle.compact.specs.Halves.{whole, inHalves, said}
 use Rattle.compact.specs.Laws.{said-back, read-took, low-only}
 use Rattle.compact.specs.declared.Reading.{Reading}

@@ -7,13 +7,11 @@ use borrow.Author.Tests.{lt-ltb, le-ltb}
 use lib.ListN.{length, replicate}
 use lib.Seq.{sets}
 use Rattle.rules.specs.Basics.{pick}
-use Rattle.rules.specs.Cells.{cells}
 use Rattle.rules.specs.Demands.{Decided, scanned-fit}
 use Rattle.rules.specs.Jobs.{readFront, cutTo, cellsAfter}
 use Rattle.rules.specs.Places.{sets-onto}
 use Rattle.rules.specs.Refusals.{bytesLeftAt}
 use Rattle.rules.specs.Scan.{start, scan, scanned, filling}
-use Rattle.rules.specs.Scan.Accept.{answer}
 use Rattle.rules.specs.Scan.Pass.{passAt, landed, pass-front}
 use Rattle.rules.specs.Table.{count, tyAt, root, checkTable, numbersOf, afterCheck, footprintsOf}
 use Rattle.rules.specs.Totals.{foot}

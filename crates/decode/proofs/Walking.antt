@@ -8,13 +8,10 @@ use lib.Dec.{lit<}
 use lib.ListN.{length, drop, take, length-drop, getD}
 use lib.Seq.{sets}
 use Rattle.rules.specs.Basics.{choose}
-use Rattle.rules.specs.Bits.{counted}
-use Rattle.rules.specs.Cells.{cells}
 use Rattle.rules.specs.Compact.{compactFrom}
 use Rattle.rules.specs.Compact.Answers.{fits-lt}
 use Rattle.rules.specs.Compact.Law.{compact-took}
-use Rattle.rules.specs.Form.Units.{units}
-use Rattle.rules.specs.Parser.{got, bad, more}
+use Rattle.rules.specs.Parser.{got, bad}
 use Rattle.rules.specs.Places.{part-rest}
 use Rattle.rules.specs.Refusals.{maxFootprint}
 use Rattle.rules.specs.Scan.Accept.{answer}
@@ -45,11 +42,6 @@ use Rattle.table.specs.Units.{units-some, units-at}
 use Rattle.decode.proofs.Landing.{same-pass-as, lands-behind}
 use Rattle.decode.proofs.Stores.{sets-length}
 use Rattle.decode.specs.Walk.{Walkable}
-use Rattle.decode.proofs.Landing.{same-pass-as, lands-behind}
-use Rattle.decode.proofs.Landing.{same-pass-as, lands-behind}
-use Rattle.decode.proofs.Landing.{same-pass-as, lands-behind}
-use Rattle.decode.proofs.Landing.{lands-behind}
-use Rattle.decode.proofs.Landing.{lands-behind}
 
 -- ---- one pass after another
 

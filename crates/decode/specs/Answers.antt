@@ -7,7 +7,6 @@ use lib.ListN.{length}
 use Rattle.rules.specs.Basics.{onto}
 use Rattle.rules.specs.Cells.{cells}
 use Rattle.rules.specs.Demands.{front-accepts, front-accepted, front-cells, whole-accepted, front-wider, cut-wider, front-grown, whole-decided}
-use Rattle.rules.specs.Form.Laws.{reads}
 use Rattle.rules.specs.Jobs.{readFront, readWhole, cutTo, cellsAfter}
 use Rattle.rules.specs.Scan.{scan, scanned}
 use Rattle.rules.specs.Scan.Accept.{Accepted, answer, passed}

@@ -3,8 +3,6 @@ use mathlib.Core.List.{List}
 use mathlib.Core.Path.{_≡_}
 use Prim.Native.Nat.{ℕ, _+_, _^_, _≤_, _<_}
 use lib.ListN.{length}
-use Rattle.rules.specs.Cells.{cells}
-use Rattle.rules.specs.Form.Units.{units}
 use Rattle.rules.specs.Table.{count, numbersOf, unitsOf}
 use Rattle.rules.specs.Table.Laws.{Good}
 use Rattle.rules.specs.Totals.{foot}

@@ -14,9 +14,7 @@ use Rattle.rules.specs.Refusals.{bytesLeftAt, outputSmall, cellsLeftAt}
 use Rattle.rules.specs.Basics.{pick, Under}
 use Rattle.rules.specs.Types.{Ty, Val, Fits}
 use Rattle.rules.specs.Compact.{fits}
-use Rattle.rules.specs.Bits.{counted}
 use Rattle.rules.specs.Parser.{Res, got, bad}
-use Rattle.rules.specs.Form.Laws.{reads}
 use Rattle.rules.specs.Wire.{bytes, encode, read}
 use Rattle.rules.specs.Wire.Used.{read-used}
 use Rattle.rules.specs.Cells.{cells, unpack}

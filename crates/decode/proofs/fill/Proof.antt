@@ -1,5 +1,4 @@
 use borrow.Author.Needs.{needs}
-use Rattle.rules.specs.Scan.Accept.{answer}
 use Rattle.decode.proofs.Reading.{found-feet, fill-none, fill-done}
 use Rattle.decode.proofs.fill.Statement.{statement}
 use Rattle.decode.proofs.fill.Tie as tie

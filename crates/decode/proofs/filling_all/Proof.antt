@@ -1,5 +1,4 @@
 use borrow.Author.Needs.{needs}
-use Rattle.rules.specs.Scan.Accept.{answer}
 use Rattle.rules.specs.Trace.{refused}
 use Rattle.decode.proofs.Reading.{fills-stopped, fills-left, fills-all}
 use Rattle.decode.proofs.filling_all.Statement.{statement}

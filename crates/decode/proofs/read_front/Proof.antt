@@ -1,7 +1,6 @@
 use borrow.Author.Needs.{needs}
 use Rattle.rules.specs.Demands.{front-decided}
 use Rattle.rules.specs.Jobs.{readFront}
-use Rattle.rules.specs.Types.{result}
 use Rattle.decode.proofs.Reading.{cut-fill, cut-read}
 use Rattle.decode.proofs.read_front.Statement.{statement}
 use Rattle.decode.proofs.read_front.Tie as tie

@@ -1,7 +1,6 @@
 use borrow.Author.Needs.{needs}
 use Rattle.rules.specs.Demands.{whole-decided}
 use Rattle.rules.specs.Jobs.{readWhole}
-use Rattle.rules.specs.Types.{result}
 use Rattle.decode.proofs.Reading.{cut-fill, cut-read}
 use Rattle.decode.proofs.read_whole.Statement.{statement}
 use Rattle.decode.proofs.read_whole.Tie as tie

@@ -1,9 +1,7 @@
-use mathlib.Core.Option.{some}
 use mathlib.Core.Path.{refl}
 use Prim.Native.Nat.{_^_, _<_}
 use native.Mathlib.Omega.{arith}
 use borrow.Author.Needs.{needs}
-use Rattle.rules.specs.Cells.{cells}
 use Rattle.rules.specs.Form.Units.{units}
 use Rattle.rules.specs.Table.Laws.{check-good}
 use Rattle.decode.proofs.Reading.{root-walked}

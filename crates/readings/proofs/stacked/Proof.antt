@@ -1,7 +1,6 @@
 -- `stacked` stays inside its array. Assumes nothing.
 use Prim.Native.Nat.{_-_, _≤_}
 use native.Mathlib.Omega.{arith}
-use Rattle.rules.specs.Table.{count}
 use Rattle.readings.proofs.stacked.Statement.{statement}
 use Rattle.readings.proofs.stacked.Tie as tie
 use Rattle.readings.proofs.stacked.Reads as reads

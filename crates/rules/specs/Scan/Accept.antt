@@ -10,7 +10,6 @@ use lib.ListN.{length, length-append}
 use Rattle.rules.specs.Refusals.{Refusal}
 use Rattle.rules.specs.Basics.{total, highest}
 use Rattle.rules.specs.Types.{Ty, leaf, nothing, result, pair, array, vector, bits, Val}
-use Rattle.rules.specs.Compact.{fits}
 use Rattle.rules.specs.Parser.{Res, got, bad}
 use Rattle.rules.specs.Form.Laws.{reads}
 use Rattle.rules.specs.Wire.{read}

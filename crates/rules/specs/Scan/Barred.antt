@@ -10,8 +10,6 @@ use lib.Dec.{ltb, leb}
 use lib.ListN.{length}
 use Rattle.rules.specs.Refusals.{Refusal, depthAt, memoryAt, roomAt}
 use Rattle.rules.specs.Basics.{pick}
-use Rattle.rules.specs.Cells.{cells}
-use Rattle.rules.specs.Totals.{charge}
 use Rattle.rules.specs.Trace.{Event, plain, enter}
 use Rattle.rules.specs.Scan.{Limits, Totals, sat, barred}
 

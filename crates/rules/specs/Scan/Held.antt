@@ -8,14 +8,13 @@ use lib.ListN.{length, length-append}
 use Rattle.rules.specs.Types.{Ty}
 use Rattle.rules.specs.Bits.{counted}
 use Rattle.rules.specs.Parser.{got}
-use Rattle.rules.specs.Cells.{cells}
 use Rattle.rules.specs.Trace.{Event, plain, enter, Trace, ended, refused, item, trace}
 use Rattle.rules.specs.Trace.Sums.{ending}
 use Rattle.rules.specs.Trace.Grow.{trace-used}
 use Rattle.rules.specs.Scan.{Limits, Totals, Scan, done, stopped, barred, finish, run, cellsOf, kept, finished}
 use Rattle.rules.specs.Scan.Pass.{further, passFrom, passAt}
 use Rattle.rules.specs.Scan.Barred.{Lets, barred-none}
-use Rattle.rules.specs.Scan.Accept.{unless-done, answer}
+use Rattle.rules.specs.Scan.Accept.{unless-done}
 
 run-ending : (lim : Limits) (t : Trace) (st u : Totals) (n : ℕ) → run lim st t ≡ done u n → ending t ≡ got tt n
 unfolding run ending

@@ -6,7 +6,6 @@ use native.Mathlib.Omega.{arith}
 use lib.ListN.{length, length-append}
 use Rattle.rules.specs.Refusals.{Refusal}
 use Rattle.rules.specs.Parser.{Res, got, bad, more, next, mapRes}
-use Rattle.rules.specs.Totals.{charge}
 use Rattle.rules.specs.Trace.{Event, plain, enter, Trace, ended, refused, item, longer, _▷_, on, step}
 
 -- the deepest level, the charges, the number of vectors, the room that was asked for and never filled, the cells

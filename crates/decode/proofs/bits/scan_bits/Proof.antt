@@ -2,9 +2,7 @@ use mathlib.Core.Path.{_≡_, refl, ap}
 use Prim.Native.Nat.{_+_}
 use native.Mathlib.Omega.{arith}
 use borrow.Author.Needs.{needs}
-use denote.Ref.{now}
 use lib.ListN.{length-drop, length-take}
-use Rattle.rules.specs.Cells.{cells}
 use Rattle.rules.specs.Scan.Pass.{lanesAt}
 use Rattle.rules.specs.Scan.Single.{bits-refused, bits-many, bits-few}
 use Rattle.rules.specs.Trace.{enter, refused}
@@ -15,7 +13,6 @@ use Rattle.rules.specs.declared.Width.the-variants.{W4 as w4}
 use Rattle.decode.proofs.Heads.{count-got, count-bad, head-stops, head-enters, head-goes}
 use Rattle.decode.proofs.Landing.{stops}
 use Rattle.decode.proofs.Lanes.{lanes-land}
-use Rattle.decode.proofs.Heads.{count-got, count-bad, head-stops}
 use Rattle.decode.proofs.bits.scan_bits.Statement.{statement}
 use Rattle.decode.proofs.bits.scan_bits.Tie as tie
 use Rattle.decode.proofs.bits.scan_bits.Reads as reads

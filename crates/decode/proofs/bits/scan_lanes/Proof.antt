@@ -3,9 +3,6 @@ use borrow.Author.Needs.{needs}
 use Rattle.rules.specs.Trace.{refused}
 use Rattle.rules.specs.Wire.{read}
 use Rattle.decode.proofs.Lanes.{lanes-short, lanes-used, lanes-bytes}
-use Rattle.decode.proofs.Lanes.{lanes-short, lanes-used, lanes-bytes}
-use Rattle.decode.proofs.Lanes.{lanes-short, lanes-used, lanes-bytes}
-use Rattle.decode.proofs.Lanes.{lanes-short, lanes-used, lanes-bytes}
 use Rattle.decode.proofs.bits.scan_lanes.Statement.{statement}
 use Rattle.decode.proofs.bits.scan_lanes.Tie as tie
 use Rattle.decode.proofs.bits.scan_lanes.Reads as reads

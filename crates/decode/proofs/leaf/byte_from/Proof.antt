@@ -1,10 +1,6 @@
 use borrow.Author.Needs.{needs}
 use Rattle.rules.specs.Refusals.{because}
 use Rattle.decode.proofs.Leaves.{byte-none, byte-large, byte-small}
-use Rattle.decode.proofs.Leaves.{byte-none, byte-large, byte-small}
-use Rattle.decode.proofs.Leaves.{byte-none, byte-large, byte-small}
-use Rattle.decode.proofs.Leaves.{byte-none, byte-large, byte-small}
-use Rattle.decode.proofs.Leaves.{byte-none, byte-large, byte-small}
 use Rattle.decode.proofs.leaf.byte_from.Statement.{statement}
 use Rattle.decode.proofs.leaf.byte_from.Tie as tie
 use Rattle.decode.proofs.leaf.byte_from.Reads as reads

@@ -1,12 +1,9 @@
 use mathlib.Core.Path.{refl, ap, sym, _∙_}
 use borrow.Author.Needs.{needs}
-use lib.Pow.{low}
 use Rattle.compact.specs.Halves.{said}
 use Rattle.rules.specs.Compact.{short, prefix, range}
 use Rattle.rules.specs.Refusals.{because}
 use Rattle.rules.specs.Wire.{placed, read}
-use Rattle.decode.proofs.Leaves.{compact-refused, compact-two, compact-one-cell}
-use Rattle.decode.proofs.Leaves.{compact-refused, compact-two, compact-one-cell}
 use Rattle.decode.proofs.Leaves.{compact-refused, compact-two, compact-one-cell}
 use Rattle.decode.proofs.leaf.compact_from.Statement.{statement}
 use Rattle.decode.proofs.leaf.compact_from.Tie as tie

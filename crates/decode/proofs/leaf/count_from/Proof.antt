@@ -2,7 +2,6 @@ use mathlib.Core.Path.{sym, _∙_}
 use borrow.Author.Needs.{needs}
 use Rattle.decode.proofs.Leaves.{count-one, count-two, count-none}
 use Rattle.decode.specs.Taken.{takenOf}
-use Rattle.decode.proofs.Leaves.{count-one, count-two, count-none}
 use Rattle.decode.proofs.leaf.count_from.Statement.{statement}
 use Rattle.decode.proofs.leaf.count_from.Tie as tie
 use Rattle.decode.proofs.leaf.count_from.Reads as reads

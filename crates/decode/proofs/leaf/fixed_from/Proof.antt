@@ -3,8 +3,6 @@ use Rattle.rules.specs.Wire.{leafFrom}
 use Rattle.rules.specs.declared.Width.the-variants.{W1 as w1, W2 as w2, W4 as w4, W8 as w8, W16 as w16}
 use Rattle.decode.proofs.Leaves.{fixed-as}
 use Rattle.decode.specs.Taken.{takenOf}
-use Rattle.decode.proofs.Leaves.{fixed-as}
-use Rattle.decode.proofs.Leaves.{fixed-as}
 use Rattle.decode.proofs.leaf.fixed_from.Statement.{statement}
 use Rattle.decode.proofs.leaf.fixed_from.Tie as tie
 use Rattle.decode.proofs.leaf.fixed_from.Reads as reads

@@ -5,7 +5,6 @@ use Rattle.rules.specs.Wire.{leafFrom}
 use Rattle.rules.specs.declared.Leaf.the-variants.{Unit as unit, Bool as bool, OptionBool as optBool, Fixed as fixed, Compact as compact, Float as float}
 use Rattle.decode.proofs.Leaves.{leaf-as}
 use Rattle.decode.specs.Taken.{inOne, takenOf}
-use Rattle.decode.proofs.Leaves.{leaf-as}
 use Rattle.decode.proofs.leaf.leaf_from.Statement.{statement}
 use Rattle.decode.proofs.leaf.leaf_from.Tie as tie
 use Rattle.decode.proofs.leaf.leaf_from.Reads as reads

@@ -1,10 +1,6 @@
 use borrow.Author.Needs.{needs}
 use Rattle.rules.specs.Refusals.{because}
 use Rattle.decode.proofs.Leaves.{number-short, number-there}
-use Rattle.decode.proofs.Leaves.{number-short, number-there}
-use Rattle.decode.proofs.Leaves.{number-short, number-there}
-use Rattle.decode.proofs.Leaves.{number-short, number-there}
-use Rattle.decode.proofs.Leaves.{number-short, number-there}
 use Rattle.decode.proofs.leaf.number_from.Statement.{statement}
 use Rattle.decode.proofs.leaf.number_from.Tie as tie
 use Rattle.decode.proofs.leaf.number_from.Reads as reads

@@ -1,9 +1,7 @@
 use mathlib.Core.Path.{refl}
 use native.Mathlib.Omega.{arith}
 use borrow.Author.Needs.{needs}
-use lib.Pow.{low}
 use Rattle.decode.proofs.Landing.{stops, same-pass-as}
-use Rattle.decode.proofs.Leaves.{leaf-one, leaf-two, leaf-none}
 use Rattle.decode.proofs.Leaves.{leaf-one, leaf-two, leaf-none}
 use Rattle.decode.proofs.leaf.scan_leaf.Statement.{statement}
 use Rattle.decode.proofs.leaf.scan_leaf.Tie as tie

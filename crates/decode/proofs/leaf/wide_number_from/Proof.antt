@@ -2,10 +2,6 @@ use native.Mathlib.Omega.{arith}
 use borrow.Author.Needs.{needs}
 use Rattle.rules.specs.Refusals.{because}
 use Rattle.decode.proofs.Leaves.{wide-short, wide-there}
-use Rattle.decode.proofs.Leaves.{wide-short, wide-there}
-use Rattle.decode.proofs.Leaves.{wide-short, wide-there}
-use Rattle.decode.proofs.Leaves.{wide-short, wide-there}
-use Rattle.decode.proofs.Leaves.{wide-short}
 use Rattle.decode.proofs.leaf.wide_number_from.Statement.{statement}
 use Rattle.decode.proofs.leaf.wide_number_from.Tie as tie
 use Rattle.decode.proofs.leaf.wide_number_from.Reads as reads

@@ -2,13 +2,9 @@ use mathlib.Core.List.{[], _∷_}
 use mathlib.Core.Path.{refl}
 use native.Mathlib.Omega.{arith}
 use borrow.Author.Needs.{needs}
-use denote.Ref.{now}
-use lib.Pow.{low, high}
-use Rattle.rules.specs.Cells.{cells}
 use Rattle.rules.specs.Scan.Single.{plain-stops, plain-passes}
 use Rattle.rules.specs.Trace.{refused}
 use Rattle.decode.proofs.Landing.{stops, lands}
-use Rattle.decode.proofs.Stores.{two-stores}
 use Rattle.decode.proofs.Stores.{two-stores}
 use Rattle.decode.proofs.meter.pass_two.Statement.{statement}
 use Rattle.decode.proofs.meter.pass_two.Tie as tie

@@ -3,15 +3,10 @@ use mathlib.Core.Path.{_≡_, refl, ap, sym, _∙_}
 use Prim.Native.Nat.{ℕ, _+_, _-_, _*_}
 use native.Mathlib.Omega.{arith}
 use borrow.Author.Needs.{needs}
-use Rattle.rules.specs.Cells.{cells}
-use Rattle.rules.specs.Parser.{more}
 use Rattle.rules.specs.Scan.Units.{zeros, unitsAt, units-fit, units-stop, units-none}
 use Rattle.rules.specs.Trace.{refused}
-use Rattle.rules.specs.Types.{result}
 use Rattle.decode.proofs.Landing.{lands}
 use Rattle.decode.proofs.Stores.{room-holds, room-one, room-ends}
-use Rattle.decode.proofs.Stores.{room-holds, room-one, room-ends}
-use Rattle.decode.proofs.Stores.{room-holds, room-ends}
 use Rattle.decode.proofs.meter.pass_units.Statement.{statement}
 use Rattle.decode.proofs.meter.pass_units.Tie as tie
 use Rattle.decode.proofs.meter.pass_units.Reads as reads

@@ -7,9 +7,6 @@ use lib.Seq.{sets}
 use Rattle.rules.specs.Cells.{cells}
 use Rattle.rules.specs.Scan.Units.{zeros}
 use Rattle.decode.proofs.Stores.{sets-out, zeros-next}
-use Rattle.decode.proofs.Stores.{sets-out, zeros-next}
-use Rattle.decode.proofs.Stores.{sets-out, zeros-next}
-use Rattle.decode.proofs.Stores.{sets-out, zeros-next}
 use Rattle.decode.proofs.meter.store_zeros.Statement.{statement}
 use Rattle.decode.proofs.meter.store_zeros.Tie as tie
 

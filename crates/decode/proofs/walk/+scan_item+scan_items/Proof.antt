@@ -4,12 +4,10 @@ use native.Mathlib.Omega.{arith}
 use borrow.Author.Needs.{needs}
 use borrow.Fn.Kinds.{In}
 use borrow.Fn.PlainCycle.{Measures, is, falls, and}
-use denote.Ref.{now}
 use Rattle.rules.specs.Cells.{cells}
 use Rattle.rules.specs.Compact.{fits}
 use Rattle.rules.specs.Form.Units.{units}
 use Rattle.rules.specs.Scan.Pass.{passAt, after, items}
-use Rattle.rules.specs.Scan.Units.{pass-units}
 use Rattle.rules.specs.Table.{count, tyAt}
 use Rattle.rules.specs.Trace.{enter}
 use Rattle.rules.specs.Types.{size, leaf}
@@ -21,8 +19,6 @@ use Rattle.rules.specs.declared.Width.the-variants.{W4 as w4}
 use Rattle.decode.proofs.Heads.{count-got, count-bad, head-stops, head-enters, head-goes}
 use Rattle.decode.proofs.Landing.{stops, same-pass-as}
 use Rattle.decode.proofs.Walking.{then-stops, walk-node, walk-on, few-nodes, feet-there, units-there, walk-units, walk-unit, Looping, loop-done, loop-stops, loop-held, loop-goes, count-lt, children, arm-leaf, arm-option, arm-result, arm-pair, arm-array, arm-bits, arm-vector, arm-vector-none, child-foot, tag-held, tag-in, tag-first, tag-second, tag-alone, pair-held, pair-goes, on-head, product-lt}
-use Rattle.decode.proofs.Landing.{same-pass-as}
-use Rattle.decode.proofs.Walking.{few-nodes, feet-there, units-there, walk-units, Looping, loop-done, loop-stops, loop-held, loop-goes}
 use Rattle.decode.proofs.walk.scan_item.Reads as scan-item
 use Rattle.decode.proofs.walk.scan_item.Kinds as scan-item-kinds
 use Rattle.decode.proofs.walk.+scan_item+scan_items.Lts-scan_item as scan-item-lts
