@@ -4,6 +4,7 @@ ghost use mathlib.Core.Path.{_≡_};
 ghost use mathlib.Core.List.{_∷_};
 ghost use Prim.Native.Nat.{_+_, _-_, _*_, _/_, _%_, _^_, max, _≤_};
 ghost use lib.ListN.{length, take};
+ghost use lib.Seq.{sets};
 ghost use Rattle.rules.specs.Types.{size};
 ghost use Rattle.rules.specs.Totals.{longestCompact};
 ghost use Rattle.rules.specs.Bytes.{leValue, leBytes};
@@ -262,4 +263,33 @@ pub fn write(low: u64, high: u64) -> Encoded
         2 => plain((low << 2) | 2, 4),
         _ => counted(low, high),
     }
+}
+
+// Puts the first n of `bytes` from `at` on, as far as there is room.
+fn put_front(bytes: &[u8], n: usize, out: &mut [u8], at: usize)
+    requires { ⌜ n ≤ length (now bytes) ⌝ }
+    ensures { λ _. ⌜ now (out .exit) ≡ sets (now (out .entry)) at (take n (now (bytes .entry))) ⌝ }
+{
+    let mut i = 0;
+    let mut to = at;
+    while i < n {
+        if out.len() <= to {
+            return;
+        }
+        out[to] = bytes[i];
+        to += 1;
+        i += 1;
+    }
+}
+
+// Puts the number's one encoding from `at` on, as far as there is room, and answers its length.
+pub fn put(low: u64, high: u64, out: &mut [u8], at: usize) -> usize
+    ensures answers { λ r. ⌜ r ≡ length (compactBytes (whole low high)) ⌝ }
+    ensures writes { λ _. ⌜ now (out .exit) ≡ sets (now (out .entry)) at (compactBytes (whole low high)) ⌝ }
+{
+    let encoded = write(low, high);
+    let n = encoded.len;
+    let bytes = encoded.bytes;
+    put_front(&bytes, n, out, at);
+    n
 }

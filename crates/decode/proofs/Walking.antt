@@ -21,7 +21,7 @@ use Rattle.rules.specs.Scan.Single.{vector-refused, vector-counted}
 use Rattle.rules.specs.Scan.Units.{unitsAt, items-units}
 use Rattle.rules.specs.Scan.Walk.{result-then, tag-there, leaf-held, units-code, one-item}
 use Rattle.rules.specs.Table.{count, nodeAt, nodeIn, build, tyAt}
-use Rattle.rules.specs.Table.Laws.{Below, type-node, numbers-at, numbers-64, units-64}
+use Rattle.rules.specs.Table.Laws.{Below, numbers-at, numbers-64, units-64}
 use Rattle.rules.specs.Totals.{foot, unitCells, charge}
 use Rattle.rules.specs.Trace.{enter, vectorHead}
 use Rattle.rules.specs.Types.{size, Ty, leaf, nothing, result, pair, array, vector, bits, option}
@@ -37,7 +37,7 @@ use Rattle.rules.specs.declared.Scan.{Scan}
 use Rattle.rules.specs.declared.Scan.the-variants.{Done as done, Refused as stopped}
 use Rattle.rules.specs.declared.Totals.{Totals}
 use Rattle.rules.specs.declared.Width.the-variants.{W4 as w4}
-use Rattle.table.specs.Laws.{node-good}
+use Rattle.table.specs.Laws.{node-is}
 use Rattle.table.specs.Units.{units-some, units-at}
 use Rattle.decode.proofs.Landing.{same-pass-as, lands-behind}
 use Rattle.decode.proofs.Stores.{sets-length}
@@ -78,13 +78,6 @@ module _ (tb feet units : List ℕ) (node at : ℕ) (s : List ℕ) (lim : Limits
     room = W .room;
     depth = W .depth;
   }
-
-  -- ---- a node
-
-  pub node-is : (q n : Node) → q ≡ nodeIn tb node → q ≡ n → (tyAt tb node ≡ build (tyAt tb) n) × Below node n
-  node-is q n e f =
-      let g : nodeAt tb node ≡ n = sym (node-good tb (W .good) node (W .there)) ∙ sym e ∙ f in
-      (type-node tb (W .good) node (W .there) ∙ ap (build (tyAt tb)) g, subst (Below node) g (W .good .nodes node (W .there)))
 
 -- ---- units
 
@@ -184,10 +177,10 @@ count-lt at s c n e = fits-lt 4 c (compact-took 4 c n s (placed-says at (compact
 
 module _ (tb feet units : List ℕ) (node level at : ℕ) (s : List ℕ) (lim : Limits) (st : Totals) (W : Walkable tb feet units node at s lim st) (q : Node) (g : q ≡ nodeIn tb node) where
   typed : (n : Node) → q ≡ n → tyAt tb node ≡ build (tyAt tb) n
-  typed n f = node-is tb feet units node at s lim st W q n g f .0
+  typed n f = node-is tb (W .good) node (W .there) q n g f .0
 
   pub children : (n : Node) → q ≡ n → Below node n
-  children n f = node-is tb feet units node at s lim st W q n g f .1
+  children n f = node-is tb (W .good) node (W .there) q n g f .1
 
   like : (t : Ty) → tyAt tb node ≡ t → passAt (tyAt tb node) lim level at s st ≡ passAt t lim level at s st
   like t e = ap (λ x. passAt x lim level at s st) e

@@ -56,6 +56,19 @@ output t cs room = putOut (length cs) room (encode t) (unpack t 0 cs)
 unfoldable pub writeCells : List ℕ → List ℕ → ℕ → Output
 writeCells tb cs room = afterCheck (checkTable tb) not (output (root tb) cs room)
 
+-- k items of a root that is a vector, without its head
+abbrev pub ofVector : {A : Type 0} → (Ty → A) → A → Ty → A
+ofVector f a (vector t) = f t
+ofVector f a (leaf l) = a
+ofVector f a nothing = a
+ofVector f a (result t u) = a
+ofVector f a (pair t u) = a
+ofVector f a (array n t) = a
+ofVector f a bits = a
+
+unfoldable pub writeItems : List ℕ → ℕ → List ℕ → ℕ → Output
+writeItems tb k cs room = afterCheck (checkTable tb) not (ofVector (λ t. output (array k t) cs room) (not appendRoot) (root tb))
+
 -- the answer, and the output afterwards: bytes past the written length stay, and a refusal leaves all
 abbrev pub writtenOf : Output → Written
 writtenOf (wrote l) = wroteBytes (length l)
@@ -85,13 +98,7 @@ appendItems t s k cs room = appendFrom t s k cs room (oldCount s)
 
 -- the root is a vector, and the used bytes are the buffer's
 unfoldable pub appendTo : Ty → List ℕ → ℕ → ℕ → List ℕ → Output
-appendTo (vector t) buf used k cs = pick (leb used (length buf)) (appendItems t (take used buf) k cs (length buf)) (not appendUsed)
-appendTo (leaf l) buf used k cs = not appendRoot
-appendTo nothing buf used k cs = not appendRoot
-appendTo (result t u) buf used k cs = not appendRoot
-appendTo (pair t u) buf used k cs = not appendRoot
-appendTo (array n t) buf used k cs = not appendRoot
-appendTo bits buf used k cs = not appendRoot
+appendTo t buf used k cs = ofVector (λ u. pick (leb used (length buf)) (appendItems u (take used buf) k cs (length buf)) (not appendUsed)) (not appendRoot) t
 
 -- the new used bytes, in place of the old ones
 unfoldable pub append : List ℕ → List ℕ → ℕ → ℕ → List ℕ → Output

@@ -19,6 +19,7 @@ pub mod Scan
 pub mod Table
 pub mod RoundTrip
 pub mod Jobs
+pub mod Put
 pub mod Append
 pub mod Demands
 pub mod Bench

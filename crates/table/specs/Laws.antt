@@ -1,11 +1,12 @@
 -- Laws of a node: which one `nodeIn` gives, how many items it has, and what is found of it from its children's numbers.
 use mathlib.Core.Bool.{Bool, true, false}
-use mathlib.Core.List.{List}
+use mathlib.Core.List.{List, [], _∷_}
 use mathlib.Core.Option.{none, some, Option}
-use mathlib.Core.Path.{_≡_, refl}
+use mathlib.Core.Path.{_≡_, refl, ap, sym, _∙_, subst}
 use Prim.Native.Nat.{ℕ, _+_, _*_, _^_, _≤_, _<_}
 use native.Mathlib.Nat.{le-refl, le-of-lt, lt-of-le-of-lt, mul-le-mul-left}
 use native.Mathlib.Omega.{arith}
+use types.Run.{OneOf, miss}
 use borrow.Author.Tests.{eqb-false, le-leb, ne-eqb}
 use lib.Dec.{eqb, leb}
 use lib.ListN.{length}
@@ -14,8 +15,9 @@ use Rattle.rules.specs.Refusals.{maxFootprint}
 use Rattle.rules.specs.Types.{Ty}
 use Rattle.rules.specs.Totals.{foot, longest}
 use Rattle.rules.specs.Totals.Bound.{longest-twice}
-use Rattle.rules.specs.Table.{count, kindAt, aAt, bAt, unused, withWidth, nodeOf, nodeAt, nodeIn, build}
-use Rattle.rules.specs.Table.Laws.{Below, Good}
+use Rattle.rules.specs.Table.{count, kindAt, aAt, bAt, unused, withWidth, nodeOf, nodeAt, nodeIn, build, tyAt}
+use Rattle.rules.specs.Table.Laws.{Below, Good, type-node}
+use Rattle.rules.specs.Jobs.{ofVector}
 use Rattle.table.specs.declared.Named.{Named}
 use Rattle.table.specs.declared.Named.the-variants.{Width as named, Nothing as unnamed}
 use Rattle.table.specs.Names.{Width, w1, w2, w4, w8, w16, Leaf, fixed, compact, Node, leafNode, optionNode, resultNode, pairNode, arrayNode, vectorNode, bitsNode, unknown}
@@ -39,6 +41,24 @@ node-in tb e i h = rw (le-leb (6 + 4 * i + 4) (length tb) (omega arith))
 
 pub node-good : (tb : List ℕ) → Good tb → (i : ℕ) → i < count tb → nodeIn tb i ≡ nodeAt tb i
 node-good tb g = node-in tb (g .exact)
+
+-- a node that was found, of a checked table: its type, and that its children stand below it
+pub node-is : (tb : List ℕ) → Good tb → (i : ℕ) → i < count tb → (q n : Node) → q ≡ nodeIn tb i → q ≡ n → (tyAt tb i ≡ build (tyAt tb) n) × Below i n
+node-is tb g i h q n e f =
+    let k : nodeAt tb i ≡ n = sym (node-good tb g i h) ∙ sym e ∙ f in
+    (type-node tb g i h ∙ ap (build (tyAt tb)) k, subst (Below i) k (g .nodes i h))
+
+-- what the last arm of a match knows that has an arm for vectors: the number of the node's kind is another than a vector's, which is 5
+pub no-vector : {A : Type 0} (f : Ty → A) (a : A) (g : ℕ → Ty) (kind : Node → ℕ) → ((i : ℕ) → kind (vectorNode i) ≡ 5)
+    → (q : Node) → OneOf (0 ∷ 1 ∷ 2 ∷ 3 ∷ 4 ∷ 6 ∷ 7 ∷ []) (kind q) → ofVector f a (build g q) ≡ a
+no-vector f a g kind e (leafNode k) h = refl
+no-vector f a g kind e (optionNode i) h = refl
+no-vector f a g kind e (resultNode i j) h = refl
+no-vector f a g kind e (pairNode i j) h = refl
+no-vector f a g kind e (arrayNode n i) h = refl
+no-vector f a g kind e (vectorNode i) h = absurd (miss (0 ∷ 1 ∷ 2 ∷ 3 ∷ 4 ∷ 6 ∷ 7 ∷ []) 5 tt (subst (OneOf (0 ∷ 1 ∷ 2 ∷ 3 ∷ 4 ∷ 6 ∷ 7 ∷ [])) (e i) h))
+no-vector f a g kind e bitsNode h = refl
+no-vector f a g kind e unknown h = refl
 
 -- ---- how many items it has
 

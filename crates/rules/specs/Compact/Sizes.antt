@@ -81,6 +81,18 @@ pub significant-lt : (n v : ℕ) → v < 2 ^ (8 * n) → significant v ≤ n
 unfolding significant
 significant-lt n v h = lt-in 67 n v h
 
+-- a larger number has no fewer
+mono-in : (k v w : ℕ) → v ≤ w → significantIn k v ≤ significantIn k w
+unfolding significantIn
+mono-in zero v w h = zero-le
+mono-in (suc k) zero w h = zero-le
+mono-in (suc k) (suc v) zero h = absurd (not-suc-le-zero h)
+mono-in (suc k) (suc v) (suc w) h = suc-le-suc (mono-in k (suc v / 256) (suc w / 256) (omega arith))
+
+pub significant-mono : (v w : ℕ) → v ≤ w → significant v ≤ significant w
+unfolding significant
+significant-mono v w h = mono-in 67 v w h
+
 -- the long form's sizes
 pub significant-4 : (v : ℕ) → 2 ^ 30 ≤ v → 4 ≤ significant v
 significant-4 v h = significant-ge 3 v (lit< tt) (omega arith)

@@ -1,18 +1,21 @@
--- Bounds by a type: an encoding is at most as long as the longest length, and that is at most twice the footprint.
+-- Bounds by a type: an encoding is at most as long as the longest length, and that is at most twice the footprint. And by cells: nine bytes for each at most.
 use mathlib.Core.List.{List, _++_, [], _∷_}
 use mathlib.Core.Logic.{inl, inr}
 use mathlib.Core.Option.{none, some, Option}
 use mathlib.Core.Path.{_≡_, subst}
-use Prim.Native.Nat.{ℕ, _+_, _*_, max, _≤_, _<_}
-use native.Mathlib.Nat.{le-of-eq, le-trans, mul-le-mul-left}
+use Prim.Native.Nat.{ℕ, _+_, _*_, _/_, _%_, _^_, max, _≤_, _<_}
+use native.Mathlib.Nat.{le-of-eq, le-trans, mul-le-mul-left, lt-of-le-of-lt}
 use native.Mathlib.Omega.{arith}
 use lib.Dec.{lit≤, lit<}
 use lib.ListN.{length, length-append}
-use Rattle.rules.specs.Basics.{All, flat}
+use Rattle.rules.specs.Basics.{pick, All, flat}
 use Rattle.rules.specs.Types.{Width, w1, w2, w4, w8, w16, Leaf, unit, bool, optBool, fixed, compact, float, size, Ty, leaf, nothing, result, pair, array, vector, bits, Val, bound, Fits}
 use Rattle.rules.specs.Bytes.Laws.{length-bytes}
+use Rattle.rules.specs.Bits.{words8, words64, pack}
+use Rattle.rules.specs.Bits.Laws.{length-pack}
 use Rattle.rules.specs.Form.{write}
-use Rattle.rules.specs.Wire.{leafBytes, encode}
+use Rattle.rules.specs.Wire.{leafBytes, bitsBytes, encode}
+use Rattle.rules.specs.Cells.{two, wide, leafCells, bitsCells, cells}
 use Rattle.rules.specs.Totals.{leafFoot, foot, longestCompact, leafLongest, join, longest}
 use Rattle.rules.specs.Compact.Bound.{compact-longest}
 
@@ -108,3 +111,52 @@ longest-twice (array n t) = go (longest t) (longest-twice t)
     go (some m) h = let e : n * (2 * foot t) ≡ 2 * (n * foot t) = omega arith in le-trans (mul-le-mul-left n h) (le-of-eq e)
 longest-twice (vector t) = tt
 longest-twice bits = tt
+
+-- ---- an encoding has at most nine bytes for each cell
+
+leaf-nine : (k : Leaf) (v : ℕ) → v < bound k → length (leafBytes k v) ≤ 9 * length (leafCells k v)
+unfolding leafCells
+leaf-nine k v h = omega (arith, leaf-most k v h, go k)
+  where
+    width-nine : (w : Width) → (size w ≤ 9 * length (pick (two w) (v % 2 ^ 64 ∷ v / 2 ^ 64 ∷ []) (v ∷ []))) × (longestCompact w ≤ 9 * length (pick (two w) (v % 2 ^ 64 ∷ v / 2 ^ 64 ∷ []) (v ∷ [])))
+    width-nine w1 = (lit≤ tt, lit≤ tt)
+    width-nine w2 = (lit≤ tt, lit≤ tt)
+    width-nine w4 = (lit≤ tt, lit≤ tt)
+    width-nine w8 = (lit≤ tt, lit≤ tt)
+    width-nine w16 = (lit≤ tt, lit≤ tt)
+
+    go : (k : Leaf) → leafLongest k ≤ 9 * length (pick (wide k) (v % 2 ^ 64 ∷ v / 2 ^ 64 ∷ []) (v ∷ []))
+    go unit = lit≤ tt
+    go bool = lit≤ tt
+    go optBool = lit≤ tt
+    go (fixed w) = width-nine w .0
+    go (compact w) = width-nine w .1
+    go (float w) = width-nine w .0
+
+all-nine : (t : Ty) → ((v : Val t) → Fits t v → length (encode t v) ≤ 9 * length (cells t v)) → (vs : List (Val t)) → All (Fits t) vs
+    → length (flat (encode t) vs) ≤ 9 * length (flat (cells t) vs)
+all-nine t h [] a = lit≤ tt
+all-nine t h (v ∷ vs) a =
+    omega (arith, h v (a .0), all-nine t h vs (a .1), length-append (encode t v) (flat (encode t) vs), length-append (cells t v) (flat (cells t) vs))
+
+pub nine-bytes : (t : Ty) (v : Val t) → Fits t v → length (encode t v) ≤ 9 * length (cells t v)
+unfolding write
+nine-bytes (leaf k) v h = leaf-nine k v h
+nine-bytes nothing v h = lit≤ tt
+nine-bytes (result t u) (inl v) h =
+    omega (arith, length-append (leafBytes bool 0) (encode t v), length-append (leafCells bool 0) (cells t v), leaf-nine bool 0 (lit< tt), nine-bytes t v h)
+nine-bytes (result t u) (inr v) h =
+    omega (arith, length-append (leafBytes bool 1) (encode u v), length-append (leafCells bool 1) (cells u v), leaf-nine bool 1 (lit< tt), nine-bytes u v h)
+nine-bytes (pair t u) v h =
+    omega (arith, length-append (encode t (v .0)) (encode u (v .1)), length-append (cells t (v .0)) (cells u (v .1)), nine-bytes t (v .0) (h .0), nine-bytes u (v .1) (h .1))
+nine-bytes (array n t) v h = all-nine t (nine-bytes t) v (h .1)
+nine-bytes (vector t) v h =
+    omega (arith, length-append (leafBytes (compact w4) (length v)) (flat (encode t) v), length-append (leafCells (compact w4) (length v)) (flat (cells t) v), leaf-nine (compact w4) (length v) (h .0), all-nine t (nine-bytes t) v (h .1))
+nine-bytes bits v h =
+    unfold bitsBytes bitsCells in omega (
+      arith,
+      length-append (leafBytes (compact w4) (length v)) (pack 8 (words8 (length v)) v),
+      length-pack 8 (words8 (length v)) v,
+      length-pack 64 (words64 (length v)) v,
+      leaf-most (compact w4) (length v) (lt-of-le-of-lt h (lit< tt)),
+    )
