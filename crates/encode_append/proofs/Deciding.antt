@@ -16,7 +16,6 @@ use Rattle.compact.specs.Laws.{said-back, read-took, low-only}
 use Rattle.compact.specs.declared.Reading.{Reading}
 use Rattle.compact.specs.declared.Reading.the-variants.{Value}
 use Rattle.rules.proofs.Node.{the-type as node-type}
-use Rattle.rules.specs.Append.{append-at}
 use Rattle.rules.specs.Basics.{pick, Under, flat}
 use Rattle.rules.specs.Bytes.Laws.{under-take}
 use Rattle.rules.specs.Cells.{unpack}
@@ -41,15 +40,13 @@ use Rattle.rules.specs.declared.Refusal.{Refusal}
 use Rattle.rules.specs.declared.Width.the-variants.{W4 as w4}
 use Rattle.rules.specs.declared.Written.{Written}
 use Rattle.rules.specs.declared.Written.the-variants.{Bytes as wroteBytes, Refused as notWritten}
-use Rattle.table.specs.Laws.{node-good}
+use Rattle.table.specs.Laws.{node-good, no-vector}
+use Rattle.encode_append.specs.Answers.{Held, byUsed, held-append, few-append, why-refused}
 use Rattle.encode_append.specs.Joins.{heads, noHeads, rootCheck, lengthsOf, itemsBehind, bytesOf, Joins}
 
 -- ---- the root
 
-abbrev others : List ℕ
-others = 0 ∷ 1 ∷ 2 ∷ 3 ∷ 4 ∷ 6 ∷ 7 ∷ []
-
--- the check of a root that a node says
+-- the check of a root that is a vector
 of-vector : (g : ℕ → Ty) (n : Node) → OneOf (5 ∷ []) (tagOf node-type n) → ofVector (λ _. fine) (wrong appendRoot) (build g n) ≡ fine
 of-vector g (leafNode k) h = absurd (miss (5 ∷ []) 0 tt h)
 of-vector g (optionNode a) h = absurd (miss (5 ∷ []) 1 tt h)
@@ -59,16 +56,6 @@ of-vector g (arrayNode n a) h = absurd (miss (5 ∷ []) 4 tt h)
 of-vector g (vectorNode a) h = refl
 of-vector g bitsNode h = absurd (miss (5 ∷ []) 6 tt h)
 of-vector g unknown h = absurd (miss (5 ∷ []) 7 tt h)
-
-of-other : (g : ℕ → Ty) (n : Node) → OneOf others (tagOf node-type n) → ofVector (λ _. fine) (wrong appendRoot) (build g n) ≡ wrong appendRoot
-of-other g (leafNode k) h = refl
-of-other g (optionNode a) h = refl
-of-other g (resultNode a b) h = refl
-of-other g (pairNode a b) h = refl
-of-other g (arrayNode n a) h = refl
-of-other g (vectorNode a) h = absurd (miss others 5 tt h)
-of-other g bitsNode h = refl
-of-other g unknown h = refl
 
 module _ (tb : List ℕ) (n : Node) (f : checkTable tb ≡ fine) (e : n ≡ nodeIn tb (count tb - 1)) where
   root-node : root tb ≡ build (tyAt tb) n
@@ -82,9 +69,9 @@ module _ (tb : List ℕ) (n : Node) (f : checkTable tb ≡ fine) (e : n ≡ node
   unfolding rootCheck
   root-vector h = sym (ap₂ (λ x t. afterCheck x wrong (ofVector (λ _. fine) (wrong appendRoot) t)) f root-node ∙ of-vector (tyAt tb) n h)
 
-  pub root-other : (y : Refusal) → y ≡ appendRoot → OneOf others (tagOf node-type n) → wrong y ≡ rootCheck tb
+  pub root-other : (y : Refusal) → y ≡ appendRoot → OneOf (0 ∷ 1 ∷ 2 ∷ 3 ∷ 4 ∷ 6 ∷ 7 ∷ []) (tagOf node-type n) → wrong y ≡ rootCheck tb
   unfolding rootCheck
-  root-other y ey h = ap wrong ey ∙ sym (ap₂ (λ x t. afterCheck x wrong (ofVector (λ _. fine) (wrong appendRoot) t)) f root-node ∙ of-other (tyAt tb) n h)
+  root-other y ey h = ap wrong ey ∙ sym (ap₂ (λ x t. afterCheck x wrong (ofVector (λ _. fine) (wrong appendRoot) t)) f root-node ∙ no-vector (λ _. fine) (wrong appendRoot) (tyAt tb) (tagOf node-type) (λ _. refl) n h)
 
 pub root-refused : (tb : List ℕ) (y : Refusal) → checkTable tb ≡ wrong y → wrong y ≡ rootCheck tb
 unfolding rootCheck
@@ -128,10 +115,7 @@ module _ (tb buf : List ℕ) (used k : ℕ) (cs : List ℕ) where
       go (wrong z) t h = let q : z ≡ y = cc in ap not q
 
   pub beyond : Rooted tb → length buf < used → append tb buf used k cs ≡ not appendUsed
-  unfolding append appendTo
-  beyond R h =
-      ap₂ (λ x t. afterCheck x not (appendTo t buf used k cs)) (R .checked) (R .rooted)
-      ∙ ap (λ b. pick b (appendItems (R .item) (take used buf) k cs (length buf)) (not appendUsed)) (lt-leb used (length buf) h)
+  beyond R h = why-refused tb buf used k cs appendUsed (byUsed (R .item) (R .checked) (R .rooted) h refl)
 
 -- ---- the count
 
@@ -239,21 +223,21 @@ module _ (tb : List ℕ) (R : Rooted tb) (k : ℕ) (cs : List ℕ) where
       ap₂ (λ x t. afterCheck x not (ofVector (λ u. output (array k u) cs room) (not appendRoot) t)) (R .checked) (R .rooted) ∙ output-put (array k (R .item)) cs room
 
   module _ (buf : List ℕ) (used : ℕ) (h : used ≤ length buf) where
+    H : Held tb buf used (R .item)
+    H = record { checked = R .checked; rooted = R .rooted; there = h }
+
     pub append-from : append tb buf used k cs ≡ appendFrom (R .item) (take used buf) k cs (length buf) (oldCount (take used buf))
-    append-from = append-at tb buf (R .item) used k cs (R .checked) (R .rooted) h ∙ (unfold appendItems in refl)
+    append-from = held-append tb buf used k cs (R .item) H
 
     append-put : (count old new : ℕ) → Headed k (oldCount (take used buf)) count old new
         → append tb buf used k cs ≡ putOut (length cs) (length buf) (λ l. compactBytes count ++ (drop old (take used buf) ++ l)) (put (array k (R .item)) 0 cs)
-    unfolding appendFrom put parse write leafBytes
-    append-put count old new H =
+    unfolding put parse write leafBytes
+    append-put count old new D =
         let t = R .item in
-        let s = take used buf in
-        let c = H .before in
-        let few : c + k ≤ maxCount = omega (arith, H .sum, H .few) in
-        append-from ∙ ap (appendFrom t s k cs (length buf)) (H .was)
-        ∙ ap (λ b. pick b (putOut (length cs) (length buf) (joined t (c + k) old s) (times k (unpack t) 0 cs)) (not appendCount)) (le-leb (c + k) maxCount few)
-        ∙ put-out (length cs) (length buf) (λ l. compactBytes (c + k) ++ (drop old s ++ l)) (flat (encode t)) (times k (unpack t) 0 cs)
-        ∙ ap (λ x. putOut (length cs) (length buf) (λ l. compactBytes x ++ (drop old s ++ l)) (put (array k t) 0 cs)) (sym (H .sum))
+        let c = D .before in
+        few-append tb buf used k cs t c old (record { held = H; counted = D .was }) (omega (arith, D .sum, D .few))
+        ∙ put-out (length cs) (length buf) (λ l. compactBytes (c + k) ++ (drop old (take used buf) ++ l)) (flat (encode t)) (times k (unpack t) 0 cs)
+        ∙ ap (λ x. putOut (length cs) (length buf) (λ l. compactBytes x ++ (drop old (take used buf) ++ l)) (put (array k t) 0 cs)) (sym (D .sum))
 
 -- bytes that are written, as part of more
 abbrev within : (List ℕ → List ℕ) → Output → Output

@@ -60,13 +60,13 @@ pub data Why (tb buf : List ℕ) (used k : ℕ) (cs : List ℕ) (y : Refusal) : 
       → length buf < length (joined t (c + k) n (take used buf) w) → y ≡ outputSmall → Why tb buf used k cs y
 
 module _ (tb buf : List ℕ) (used k : ℕ) (cs : List ℕ) where
-  held-append : (t : Ty) → Held tb buf used t → append tb buf used k cs ≡ appendFrom t (take used buf) k cs (length buf) (oldCount (take used buf))
+  pub held-append : (t : Ty) → Held tb buf used t → append tb buf used k cs ≡ appendFrom t (take used buf) k cs (length buf) (oldCount (take used buf))
   held-append t H = append-at tb buf t used k cs (H .checked) (H .rooted) (H .there) ∙ (unfold appendItems in refl)
 
   counts-append : (t : Ty) (c n : ℕ) → Counts tb buf used t c n → append tb buf used k cs ≡ appendFrom t (take used buf) k cs (length buf) (got c n)
   counts-append t c n C = held-append t (C .held) ∙ ap (appendFrom t (take used buf) k cs (length buf)) (C .counted)
 
-  few-append : (t : Ty) (c n : ℕ) → Counts tb buf used t c n → c + k ≤ maxCount
+  pub few-append : (t : Ty) (c n : ℕ) → Counts tb buf used t c n → c + k ≤ maxCount
       → append tb buf used k cs ≡ putOut (length cs) (length buf) (joined t (c + k) n (take used buf)) (times k (unpack t) 0 cs)
   unfolding appendFrom
   few-append t c n C h =
