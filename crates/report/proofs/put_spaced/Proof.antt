@@ -1,0 +1,24 @@
+-- `put_spaced` meets its contract. Assumes nothing.
+use borrow.Author.Needs.{needs}
+use Rattle.report.proofs.Writing.{then}
+use Rattle.report.proofs.put_spaced.Statement.{statement}
+use Rattle.report.proofs.put_spaced.Tie as tie
+
+slice-aggregate-put : tie.Need-slice-aggregate-put
+slice-aggregate-put c = search needs
+
+put-requires : tie.Need-put-requires
+put-requires c κs = search needs
+
+put-decimal-requires : tie.Need-put-decimal-requires
+put-decimal-requires c κs = search needs
+
+same-length : tie.Need-same-length
+same-length c = search needs
+
+returns : tie.Need-returns
+returns c = (then (c .before .before .before .before .before .before .put .ensures) (c .before .before .put-decimal .ensures .0), search needs)
+
+pub put-spaced-spec : {M : Type 1} → statement M
+put-spaced-spec =
+    tie.close (tie.spec slice-aggregate-put put-requires put-decimal-requires same-length returns)

@@ -1,0 +1,10 @@
+-- What a function that puts a text from `at` on into the lent memory l does: it answers r, where the text ends, and leaves m.
+use mathlib.Core.List.{List}
+use mathlib.Core.Path.{_≡_}
+use Prim.Native.Nat.{ℕ, _+_}
+use lib.ListN.{length}
+use lib.Seq.{sets}
+
+pub record Puts (text : List ℕ) (at : ℕ) (l : List ℕ) (r : ℕ) (m : List ℕ) : Type 0 where
+  pub ends : r ≡ at + length text
+  pub holds : m ≡ sets l at text
