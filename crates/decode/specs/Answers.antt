@@ -63,9 +63,11 @@ module _ (tb s : List ℕ) (lim : Limits) (l : List ℕ) (r : Scan) (m : List �
   whole-read-accepts c g v a =
       let e : readWhole tb s (cutTo (length l) lim) ≡ done (answer (root tb) v) (length s) = whole-accepts tb s (cutTo (length l) lim) M g v a in
       let q : r ≡ done (answer (root tb) v) (length s) = c .answers ∙ e in
-      let d : scan (root tb) (cutTo (length l) lim) s ≡ done (answer (root tb) v) (length s) = whole-decided tb s (cutTo (length l) lim) (answer (root tb) v) (length s) e .1 in
-      (q, c .writes ∙ ap (λ x. cellsAfter (scanned (root tb) (cutTo (length l) lim) s) x l) q
-      ∙ ap (λ x. onto x l) (passed (root tb) (cutTo (length l) lim) s v (answer (root tb) v) (length s) (length s) (a .reads) d))
+      let d : scan (root tb) (cutTo (length l) lim) s ≡ done (answer (root tb) v) (length s) = whole-decided tb s (cutTo (length l) lim) (answer (root tb) v) (length s) e .1 in (
+        q,
+        c .writes ∙ ap (λ x. cellsAfter (scanned (root tb) (cutTo (length l) lim) s) x l) q
+            ∙ ap (λ x. onto x l) (passed (root tb) (cutTo (length l) lim) s v (answer (root tb) v) (length s) (length s) (a .reads) d),
+      )
 
   pub whole-read-accepted : Contract readWhole tb s lim l r m → (u : Totals) (n : ℕ) → r ≡ done u n
       → Good tb × ((v : Val (root tb)) × Accepted (root tb) (cutTo (length l) lim) s v (length s) × (u ≡ answer (root tb) v) × (n ≡ length s) × (m ≡ onto (cells (root tb) v) l))
