@@ -1,9 +1,7 @@
+-- `pass_over` ends: what is left falls. Assumes nothing.
 use borrow.Author.Needs.{needs}
 use Rattle.replay.proofs.pass_over.Statement.{statement}
 use Rattle.replay.proofs.pass_over.Tie as tie
-use Rattle.replay.proofs.pass_over.Reads as reads
-use Rattle.replay.proofs.pass_over.Lts as lts
-use Rattle.replay.proofs.pass_some.Reads as pass-some-reads
 
 abbrev Inv-loop : tie.InvT-loop
 Inv-loop file length left₀ left = Unit {0}

@@ -1,11 +1,9 @@
+-- `pass_some` lends no more bytes than there are. Assumes nothing.
 use native.Mathlib.Omega.{arith}
-use lib.ListN.{length-take}
 use borrow.Author.Needs.{needs}
+use lib.ListN.{length-take}
 use Rattle.replay.proofs.pass_some.Statement.{statement}
 use Rattle.replay.proofs.pass_some.Tie as tie
-use Rattle.replay.proofs.pass_some.Reads as reads
-use Rattle.replay.proofs.pass_some.Lts as lts
-use Rattle.io.proofs.read_full.Reads as read-full-reads
 
 array-borrow-prefix-room : tie.Need-array-borrow-prefix-room
 array-borrow-prefix-room c = search needs

@@ -1,12 +1,8 @@
-use borrow.Author.Needs.{needs}
+-- `replay_all` ends: the cases that there still could be fall. Assumes nothing.
 use Prim.Native.Nat.{_-_}
+use borrow.Author.Needs.{needs}
 use Rattle.replay.proofs.replay_all.Statement.{statement}
 use Rattle.replay.proofs.replay_all.Tie as tie
-use Rattle.replay.proofs.replay_all.Reads as reads
-use Rattle.replay.proofs.replay_all.Lts as lts
-use Rattle.replay.proofs.next_case.Reads as next-case-reads
-use Rattle.replay.proofs.report.Tally.new.Reads as new-reads
-use Rattle.replay.proofs.report.Tally.with.Reads as with-reads
 
 abbrev Inv-loop : tie.InvT-loop
 Inv-loop file tally₀ index₀ tally index = Unit {0}

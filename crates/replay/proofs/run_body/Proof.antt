@@ -1,11 +1,9 @@
+-- `run_body` lends no more bytes than there are. Assumes nothing.
 use native.Mathlib.Omega.{arith}
-use lib.ListN.{length-take}
 use borrow.Author.Needs.{needs}
+use lib.ListN.{length-take}
 use Rattle.replay.proofs.run_body.Statement.{statement}
 use Rattle.replay.proofs.run_body.Tie as tie
-use Rattle.replay.proofs.run_body.Reads as reads
-use Rattle.replay.proofs.run_body.Lts as lts
-use Rattle.replay.proofs.run_in.Reads as run-in-reads
 
 returns : tie.Need-returns
 returns c = search needs

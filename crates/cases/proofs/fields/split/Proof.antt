@@ -1,13 +1,10 @@
+-- `split` stays inside the body: each field ends where there still are bytes, or none begins. Assumes nothing.
 use mathlib.Core.Path.{_≡_}
 use Prim.Native.Nat.{_-_, _≤_}
 use borrow.Author.Needs.{needs}
 use lib.ListN.{length}
 use Rattle.cases.proofs.fields.split.Statement.{statement}
 use Rattle.cases.proofs.fields.split.Tie as tie
-use Rattle.cases.proofs.fields.split.Reads as reads
-use Rattle.cases.proofs.fields.split.Lts as lts
-use Rattle.cases.proofs.fields.head.Reads as head-reads
-use Rattle.cases.proofs.fields.size.Reads as size-reads
 
 abbrev Inv-loop : tie.InvT-loop
 Inv-loop body form from₀ to₀ end₀ i₀ from to end i = (end ≤ length body) × (14 ≡ length from) × (14 ≡ length to)

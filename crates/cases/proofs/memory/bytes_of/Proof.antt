@@ -1,12 +1,10 @@
+-- `bytes_of` stays inside both: the copy keeps its length. Assumes nothing.
 use mathlib.Core.Path.{_≡_}
 use Prim.Native.Nat.{_-_, _≤_}
 use borrow.Author.Needs.{needs}
 use lib.ListN.{length}
 use Rattle.cases.proofs.memory.bytes_of.Statement.{statement}
 use Rattle.cases.proofs.memory.bytes_of.Tie as tie
-use Rattle.cases.proofs.memory.bytes_of.Reads as reads
-use Rattle.cases.proofs.memory.bytes_of.Lts as lts
-use Rattle.cases.proofs.memory.byte_count.Reads as byte-count-reads
 
 abbrev Inv-loop : tie.InvT-loop
 Inv-loop bytes copy₀ n i₀ copy i = (2048 ≡ length copy) × (n ≤ 2048)

@@ -1,13 +1,10 @@
+-- `cells_of` stays inside both: the cells keep their number. Assumes nothing.
 use mathlib.Core.Path.{_≡_}
 use Prim.Native.Nat.{_-_, _≤_}
 use borrow.Author.Needs.{needs}
 use lib.ListN.{length}
 use Rattle.cases.proofs.memory.cells_of.Statement.{statement}
 use Rattle.cases.proofs.memory.cells_of.Tie as tie
-use Rattle.cases.proofs.memory.cells_of.Reads as reads
-use Rattle.cases.proofs.memory.cells_of.Lts as lts
-use Rattle.cases.proofs.memory.cell_count.Reads as cell-count-reads
-use Rattle.number.proofs.word.Reads as word-reads
 
 abbrev Inv-loop : tie.InvT-loop
 Inv-loop bytes cells₀ n rest₀ i₀ cells rest i = (512 ≡ length cells) × (n ≤ 512)

@@ -1,11 +1,9 @@
+-- `same_cells` is safe and ends. Assumes nothing.
 use Prim.Native.Nat.{_-_}
 use borrow.Author.Needs.{needs}
 use lib.ListN.{length}
 use Rattle.cases.proofs.memory.same_cells.Statement.{statement}
 use Rattle.cases.proofs.memory.same_cells.Tie as tie
-use Rattle.cases.proofs.memory.same_cells.Reads as reads
-use Rattle.cases.proofs.memory.same_cells.Lts as lts
-use Rattle.number.proofs.word.Reads as word-reads
 
 abbrev Inv-loop : tie.InvT-loop
 Inv-loop cells bytes rest₀ i₀ rest i = Unit {0}

@@ -1,11 +1,10 @@
+-- `same_front` stays inside both: they are as long as `n` says. Assumes nothing.
 use mathlib.Core.Path.{_≡_}
 use Prim.Native.Nat.{_-_}
 use borrow.Author.Needs.{needs}
 use lib.ListN.{length}
 use Rattle.cases.proofs.memory.same_front.Statement.{statement}
 use Rattle.cases.proofs.memory.same_front.Tie as tie
-use Rattle.cases.proofs.memory.same_front.Reads as reads
-use Rattle.cases.proofs.memory.same_front.Lts as lts
 
 abbrev Inv-loop : tie.InvT-loop
 Inv-loop bytes n expected i₀ i = length expected ≡ n

@@ -1,11 +1,9 @@
+-- `first_difference` asks for no field that there cannot be. Assumes nothing.
 use Prim.Native.Nat.{_-_}
 use borrow.Author.Needs.{needs}
 use lib.ListN.{length}
 use Rattle.cases.proofs.ops.first_difference.Statement.{statement}
 use Rattle.cases.proofs.ops.first_difference.Tie as tie
-use Rattle.cases.proofs.ops.first_difference.Reads as reads
-use Rattle.cases.proofs.ops.first_difference.Lts as lts
-use Rattle.cases.proofs.fields.number_at.Reads as number-at-reads
 
 abbrev Inv-loop : tie.InvT-loop
 Inv-loop body fields first got i₀ i = Unit {0}

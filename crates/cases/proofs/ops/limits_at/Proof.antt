@@ -1,11 +1,8 @@
+-- `limits_at`: what is masked by 32 ones fits 32 bits. Assumes nothing.
 use borrow.Author.Needs.{needs}
 use lib.Bits.{mask-lt}
-use borrow.Author.Needs.{needs}
 use Rattle.cases.proofs.ops.limits_at.Statement.{statement}
 use Rattle.cases.proofs.ops.limits_at.Tie as tie
-use Rattle.cases.proofs.ops.limits_at.Reads as reads
-use Rattle.cases.proofs.ops.limits_at.Lts as lts
-use Rattle.cases.proofs.fields.number_at.Reads as number-at-reads
 
 number-at-requires : tie.Need-number-at-requires
 number-at-requires c κs = search needs

@@ -1,16 +1,9 @@
+-- `run_read` lends no more cells than there are. Assumes nothing.
 use native.Mathlib.Omega.{arith}
-use lib.ListN.{length-take}
 use borrow.Author.Needs.{needs}
+use lib.ListN.{length-take}
 use Rattle.cases.proofs.ops.run_read.Statement.{statement}
 use Rattle.cases.proofs.ops.run_read.Tie as tie
-use Rattle.cases.proofs.ops.run_read.Reads as reads
-use Rattle.cases.proofs.ops.run_read.Lts as lts
-use Rattle.cases.proofs.fields.bytes_at.Reads as bytes-at-reads
-use Rattle.cases.proofs.fields.number_at.Reads as number-at-reads
-use Rattle.cases.proofs.memory.cell_count.Reads as cell-count-reads
-use Rattle.cases.proofs.memory.cells_of.Reads as cells-of-reads
-use Rattle.cases.proofs.ops.compare_read.Reads as compare-read-reads
-use Rattle.cases.proofs.ops.flags_fit.Reads as flags-fit-reads
 
 number-at-requires : tie.Need-number-at-requires
 number-at-requires c κs = search needs

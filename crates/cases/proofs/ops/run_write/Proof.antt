@@ -1,16 +1,9 @@
+-- `run_write` lends no more cells and bytes than there are. Assumes nothing.
 use native.Mathlib.Omega.{arith}
-use lib.ListN.{length-take}
 use borrow.Author.Needs.{needs}
+use lib.ListN.{length-take}
 use Rattle.cases.proofs.ops.run_write.Statement.{statement}
 use Rattle.cases.proofs.ops.run_write.Tie as tie
-use Rattle.cases.proofs.ops.run_write.Reads as reads
-use Rattle.cases.proofs.ops.run_write.Lts as lts
-use Rattle.cases.proofs.fields.bytes_at.Reads as bytes-at-reads
-use Rattle.cases.proofs.memory.byte_count.Reads as byte-count-reads
-use Rattle.cases.proofs.memory.bytes_of.Reads as bytes-of-reads
-use Rattle.cases.proofs.memory.cell_count.Reads as cell-count-reads
-use Rattle.cases.proofs.memory.cells_of.Reads as cells-of-reads
-use Rattle.cases.proofs.ops.compare_write.Reads as compare-write-reads
 
 bytes-at-requires : tie.Need-bytes-at-requires
 bytes-at-requires c κs = search needs
