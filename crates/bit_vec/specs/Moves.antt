@@ -8,14 +8,27 @@ use lib.ListN.{length, take}
 use lib.Seq.{sets}
 use Rattle.rules.specs.Basics.{pick}
 use Rattle.rules.specs.Bits.{words8, words64, pack, lanes, clear}
+use Rattle.rules.specs.Parser.{Res, got, bad}
+use Rattle.rules.specs.Wire.{lanesFrom}
+use Rattle.bit_vec.specs.declared.Moved.{Moved}
+use Rattle.bit_vec.specs.declared.Moved.the-variants.{Took, Refused}
 use Rattle.bit_vec.specs.declared.Lanes.{Lanes}
 use Rattle.bit_vec.specs.declared.Lanes.the-variants.{Bytes, Short}
 
-unfoldable pub bitsRead : ℕ → List ℕ → Lanes
-bitsRead n s = pick (ltb (length s) (words8 n)) Short (Bytes (words8 n))
+-- (the place where the bits' own bytes start plays no part)
+abbrev pub moved : Res (List Bool) → Moved
+moved (got v k) = Took k
+moved (bad y) = Refused y
 
-unfoldable pub cellsRead : ℕ → List ℕ → List ℕ → ℕ → List ℕ
-cellsRead n s cells at = pick (ltb (length s) (words8 n)) cells (sets cells at (pack 64 (words64 n) (lanes 8 n (take (words8 n) s))))
+abbrev pub stored : ℕ → List ℕ → ℕ → Res (List Bool) → List ℕ
+stored n cells at (got v k) = sets cells at (pack 64 (words64 n) v)
+stored n cells at (bad y) = cells
+
+unfoldable pub bitsRead : ℕ → ℕ → List ℕ → Moved
+bitsRead n start s = moved (lanesFrom n start start s)
+
+unfoldable pub cellsRead : ℕ → ℕ → List ℕ → List ℕ → ℕ → List ℕ
+cellsRead n start s cells at = stored n cells at (lanesFrom n start start s)
 
 unfoldable pub bitsWritten : ℕ → List ℕ → Lanes
 bitsWritten n cells = pick (ltb (length cells) (words64 n)) Short (Bytes (words8 n))

@@ -6,11 +6,18 @@ ghost use lib.ListN.{length, take, drop};
 ghost use lib.Seq.{sets};
 ghost use Rattle.rules.specs.Bits.{words8, words64, bitsValue, pack, lanes};
 ghost use Rattle.bit_vec.specs.Moves.{bitsRead, cellsRead, bitsWritten, bytesWritten, clearCells};
+use rules::Refusal;
 
 // What moving bits answers: how many bytes they take, or that the words which should hold them are not all there.
 pub enum Lanes {
     Bytes(usize),
     Short,
+}
+
+// What reading bits answers: how many bytes they took, or why they are refused.
+pub enum Moved {
+    Took(usize),
+    Refused(Refusal),
 }
 
 // How many bytes hold n bits. (n + 7 could wrap.)
@@ -109,18 +116,21 @@ fn store_bytes(n: usize, cells: &[u64], out: &mut [u8], at: usize)
     }
 }
 
-// Reads n bits from the front of a message into the cells from a place on. If their bytes are not all there, the cells stay.
-pub fn read(n: u64, s: &[u8], cells: &mut [u64], at: usize) -> Lanes
-    ensures { λ r. ⌜ r ≡ bitsRead n (now (s .entry)) ⌝ }
-    ensures { λ _. ⌜ now (cells .exit) ≡ cellsRead n (now (s .entry)) (now (cells .entry)) at ⌝ }
+// Reads n bits of a bit vector that starts at offset `start` from the front of s into the cells from a place on. If they are refused, the cells stay.
+pub fn read(n: u64, start: usize, s: &[u8], cells: &mut [u64], at: usize) -> Moved
+    ensures { λ r. ⌜ r ≡ bitsRead n start (now (s .entry)) ⌝ }
+    ensures { λ _. ⌜ now (cells .exit) ≡ cellsRead n start (now (s .entry)) (now (cells .entry)) at ⌝ }
 {
     let n = n as usize;
     let used = bytes_for(n);
     if s.len() < used {
-        return Lanes::Short;
+        return Moved::Refused(Refusal {
+            number: rules::SHORT,
+            place: start,
+        });
     }
     store_cells(n, &s[..used], cells, at);
-    Lanes::Bytes(used)
+    Moved::Took(used)
 }
 
 // Writes n bits from the front of a list of cells into the output from a place on. If their cells are not all there, the output stays.

@@ -93,7 +93,7 @@ fn same_front(bytes: &[u8; 17], n: usize, expected: &[u8]) -> bool {
 
 // Is this the compact encoding of the value?
 pub fn is_encoded(low: u64, high: u64, expected: &[u8]) -> bool {
-    let encoded = compact::write(low, high);
+    let encoded = compact_put::write(low, high);
     let n = encoded.len;
     let bytes = encoded.bytes;
     same_front(&bytes, n, expected)

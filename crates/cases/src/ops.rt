@@ -145,7 +145,7 @@ fn compare_encoding(low: u64, high: u64, expected: &[u8]) -> Outcome {
     if !is_encoded(low, high, expected) {
         return Outcome::Differs(0);
     }
-    if compact::encoded_len(low, high) != expected.len() {
+    if compact_put::encoded_len(low, high) != expected.len() {
         return Outcome::Differs(1);
     }
     Outcome::Same
@@ -176,7 +176,7 @@ fn run_table_check(body: &[u8], fields: Fields) -> Outcome {
 
 // 0 table; 1 number, 2 place, 3 has, 4 length.
 fn run_longest(body: &[u8], fields: Fields) -> Outcome {
-    let got = of_longest(table::longest(bytes_at(body, fields, 0)));
+    let got = of_longest(totals::longest(bytes_at(body, fields, 0)));
     settled(first_difference(body, fields, 1, &got), 4, true)
 }
 

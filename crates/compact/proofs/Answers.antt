@@ -1,7 +1,7 @@
 -- What the code's tests say of `settled`, one law for each way to an answer.
 use mathlib.Core.Bool.{Bool, true, false}
 use mathlib.Core.Path.{_≡_, refl, ap, sym, _∙_}
-use Prim.Native.Nat.{ℕ, zero, suc, _^_, max, _≤_, _<_}
+use Prim.Native.Nat.{ℕ, _^_, max, _≤_, _<_}
 use native.Mathlib.Omega.{arith}
 use borrow.Author.Tests.{leb-true, leb-false, le-leb, lt-leb, le-ltb}
 use lib.Dec.{leb}
@@ -9,9 +9,9 @@ use Rattle.rules.specs.Basics.{pick}
 use Rattle.rules.specs.Compact.{significant, fits, Answer, value, range, settled}
 use Rattle.rules.specs.Compact.Answers.{lt-fits, settled-yes, settled-low}
 use Rattle.compact.specs.declared.Reading.the-variants.{Value, Range}
-use Rattle.compact.specs.Halves.{whole, inHalves, OfForm}
+use Rattle.compact.specs.Halves.{whole, inHalves}
 use Rattle.compact.specs.Laws.{in-halves}
-use Rattle.compact.proofs.Sizes.{whole-low, under, over}
+use Rattle.compact.specs.Sizes.{whole-low, under, over}
 
 -- below the form's first value
 pub refuse-low : (w least v n : ℕ) → v < least → Range ≡ inHalves (settled w least v n)
@@ -48,20 +48,3 @@ settled-max w l m v n h = ap (λ (t : Bool). pick t (pick (fits w v) (value v n)
     go : (t : Bool) → leb l v ≡ t → leb l v ≡ leb (max l m) v
     go true e = e ∙ sym (le-leb (max l m) v (omega (arith, leb-true l v e)))
     go false e = e ∙ sym (lt-leb (max l m) v (omega (arith, leb-false l v e)))
-
--- ---- from the tests on the halves and on a form
-
-pub under-low : (low high least : ℕ) → high ≡ 0 → low < least → whole low high < least
-under-low low high least e lt = omega arith
-
-pub over-low : (low high least : ℕ) → least ≤ low → least ≤ whole low high
-over-low low high least h = omega arith
-
-pub over-high : (low high least : ℕ) → (high ≡ 0 → ⊥) → least < 2 ^ 64 → least ≤ whole low high
-over-high low high least n h = omega arith
-
-pub last-form : (f v : ℕ) → OfForm f v → ((Prim.Unit {0} × (f ≡ 0 → ⊥)) × (f ≡ 1 → ⊥)) × (f ≡ 2 → ⊥) → 2 ^ 30 ≤ v
-last-form zero v h n = absurd (n .0 .0 .1 refl)
-last-form (suc zero) v h n = absurd (n .0 .1 refl)
-last-form (suc (suc zero)) v h n = absurd (n .1 refl)
-last-form (suc (suc (suc f))) v h n = h

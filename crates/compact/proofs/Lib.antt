@@ -1,4 +1,1 @@
-pub mod Sizes
 pub mod Answers
-pub mod Outputs
-pub mod Fronts

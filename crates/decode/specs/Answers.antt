@@ -1,22 +1,26 @@
 -- Demands 1 and 3 about the public functions' own answers: r is any answer that the contract allows, and m what the lent cells l are afterwards.
 use mathlib.Core.List.{List, _++_}
 use mathlib.Core.Logic.{_⊎_, inl, inr, ⊎-elim}
-use mathlib.Core.Path.{_≡_, ap, sym, _∙_, subst}
+use mathlib.Core.Path.{_≡_, refl, ap, sym, _∙_, subst}
 use Prim.Native.Nat.{ℕ, _^_, _≤_, _<_}
 use native.Mathlib.Omega.{arith}
 use lib.ListN.{length}
 use Rattle.rules.specs.Basics.{onto}
 use Rattle.rules.specs.Cells.{cells}
-use Rattle.rules.specs.Demands.{front-accepts, front-accepted, front-cells, whole-accepts, whole-accepted, front-wider, cut-wider, front-grown, whole-decided}
-use Rattle.rules.specs.Form.Laws.{reads}
+use Rattle.rules.specs.Demands.{front-accepts, front-accepted, front-cells, whole-accepts, whole-accepted, front-wider, whole-wider, cut-wider, front-grown, Decided, front-decided, whole-decided}
 use Rattle.rules.specs.Jobs.{readFront, readWhole, cutTo, cellsAfter}
+use Rattle.rules.specs.Parser.{Res, got, bad}
 use Rattle.rules.specs.Scan.{scan, scanned}
 use Rattle.rules.specs.Scan.Accept.{Accepted, answer, passed}
-use Rattle.rules.specs.Scan.Barred.{Wider}
-use Rattle.rules.specs.Scan.Steady.{ByLimit, Short}
-use Rattle.rules.specs.Table.{root}
+use Rattle.rules.specs.Scan.Barred.{Limit, Wider}
+use Rattle.rules.specs.Scan.Refuse.{scan-refuses, scan-reads}
+use Rattle.rules.specs.Scan.Steady.{ByLimit, scanned-wider, Short, scanned-grown}
+use Rattle.rules.specs.Table.{root, checkTable, afterCheck}
 use Rattle.rules.specs.Table.Laws.{Good}
-use Rattle.rules.specs.Types.{Ty, Val}
+use Rattle.rules.specs.Types.{Val}
+use Rattle.rules.specs.Wire.{read}
+use Rattle.rules.specs.declared.Check.{Check}
+use Rattle.rules.specs.declared.Check.the-variants.{Fine as fine, Refused as wrong}
 use Rattle.rules.specs.declared.Limits.{Limits}
 use Rattle.rules.specs.declared.Refusal.{Refusal}
 use Rattle.rules.specs.declared.Scan.{Scan}
@@ -78,33 +82,90 @@ module _ (tb s : List ℕ) (lim : Limits) (l : List ℕ) (r : Scan) (m : List �
       let k : m ≡ onto (scanned (root tb) (cutTo (length l) lim) s) l = c .writes ∙ ap (λ x. cellsAfter (scanned (root tb) (cutTo (length l) lim) s) x l) e in
       (w .0, (v, w .1 .1, w .1 .2, w .1 .3, k ∙ ap (λ x. onto x l) (passed (root tb) (cutTo (length l) lim) s v u (length s) n (w .1 .1 .reads) d)))
 
--- larger limits and more lent cells change only a refusal by a limit
-pub read-wider : (tb s : List ℕ) (lim lim′ : Limits) (l l′ : List ℕ) (r r′ : Scan) (m m′ : List ℕ) → Contract readFront tb s lim l r m → Contract readFront tb s lim′ l′ r′ m′
-    → Wider lim lim′ → length l ≤ length l′ → (r ≡ r′) ⊎ ByLimit r
-read-wider tb s lim lim′ l l′ r r′ m m′ c d w h =
-    ⊎-elim (λ e. inl (c .answers ∙ e ∙ sym (d .answers))) (λ e. inr (subst ByLimit (sym (c .answers)) e))
-    (front-wider tb s (cutTo (length l) lim) (cutTo (length l′) lim′) (cut-wider lim lim′ (length l) (length l′) w h))
+-- why a front read is refused: by the table's check, by a limit, or by the written rule, whose number and place it then has
+pub data Why (tb s : List ℕ) (y : Refusal) : Type 0 where
+  byTable : checkTable tb ≡ wrong y → Why tb s y
+  byLimit : checkTable tb ≡ fine → Limit y → Why tb s y
+  byRule : checkTable tb ≡ fine → read (root tb) 0 s ≡ bad y → Why tb s y
 
--- so what is accepted stays so, with the same totals, bytes and cells
-accepted-wider : (t : Ty) (lim lim′ : Limits) (s : List ℕ) (v : Val t) (n : ℕ) → Wider lim lim′ → Accepted t lim s v n → Accepted t lim′ s v n
-accepted-wider t lim lim′ s v n w a = record {
-  reads = a .reads;
-  nests = omega (arith, a .nests, w .depths);
-  fills = omega (arith, a .fills, w .rooms);
-  charges = ⊎-elim (λ e. inl e) (λ h. inr (omega (arith, h, w .memories))) (a .charges);
-}
+pub read-refused : (tb s : List ℕ) (lim : Limits) (l : List ℕ) (r : Scan) (m : List ℕ) (y : Refusal) → Contract readFront tb s lim l r m → r ≡ stopped y → Why tb s y
+unfolding readFront ByLimit
+read-refused tb s lim l r m y c e = go (checkTable tb) refl (sym (c .answers) ∙ e)
+  where
+    C : Limits
+    C = cutTo (length l) lim
 
-pub read-kept : (tb s : List ℕ) (lim lim′ : Limits) (l l′ : List ℕ) (r r′ : Scan) (m m′ : List ℕ) → lim .memory < 2 ^ 64 → lim′ .memory < 2 ^ 64
-    → Contract readFront tb s lim l r m → Contract readFront tb s lim′ l′ r′ m′ → Wider lim lim′ → length l ≤ length l′ → (u : Totals) (n : ℕ) → r ≡ done u n
-    → (r′ ≡ done u n) × ((v : Val (root tb)) × (m ≡ onto (cells (root tb) v) l) × (m′ ≡ onto (cells (root tb) v) l′))
-read-kept tb s lim lim′ l l′ r r′ m m′ M M′ c d w h u n e =
-    let a = read-accepted tb s lim l r m M c u n e in
-    let v = a .1 .0 in
-    let k = accepted-wider (root tb) (cutTo (length l) lim) (cutTo (length l′) lim′) s v n (cut-wider lim lim′ (length l) (length l′) w h) (a .1 .1) in
-    let b = read-accepts tb s lim′ l′ r′ m′ M′ d (a .0) v n k in
-    (b .0 ∙ ap (λ x. done x n) (sym (a .1 .2)), (v, a .1 .3, b .1))
+    -- a scan that ended so
+    limited : (x : Scan) → x ≡ stopped y → ByLimit x → Limit y
+    limited x q b = subst ByLimit q b
 
--- added bytes change only a refusal as short
-pub read-grown : (tb s x : List ℕ) (lim : Limits) (l : List ℕ) (r r′ : Scan) (m m′ : List ℕ) → Contract readFront tb s lim l r m → Contract readFront tb (s ++ x) lim l r′ m′ → (r ≡ r′) ⊎ Short r
-read-grown tb s x lim l r r′ m m′ c d =
-    ⊎-elim (λ e. inl (c .answers ∙ e ∙ sym (d .answers))) (λ e. inr (subst Short (sym (c .answers)) e)) (front-grown tb s x (cutTo (length l) lim))
+    by : checkTable tb ≡ fine → scan (root tb) C s ≡ stopped y → (x : Res (Val (root tb))) → read (root tb) 0 s ≡ x → Why tb s y
+    by f q (got v n) k =
+        ⊎-elim (λ b. byLimit f (limited (scan (root tb) C s) q b))
+        (λ d. absurd (let h : done (d .0) n ≡ stopped y = sym (d .1) ∙ q in let z : _≡_ {A = ℕ} 0 1 = cc in omega arith)) (scan-reads (root tb) C s v n k)
+    by f q (bad x) k =
+        ⊎-elim (λ b. byLimit f (limited (scan (root tb) C s) q b))
+        (λ d. let h : stopped x ≡ stopped y = sym d ∙ q in let j : x ≡ y = cc in byRule f (k ∙ ap bad j)) (scan-refuses (root tb) C s x k)
+
+    go : (x : Check) → checkTable tb ≡ x → afterCheck x stopped (scan (root tb) C s) ≡ stopped y → Why tb s y
+    go fine q f = by q f (read (root tb) 0 s) refl
+    go (wrong x) q f = let j : x ≡ y = cc in byTable (q ∙ ap wrong j)
+
+-- DEMAND 3: larger limits and more lent cells change only a refusal by a limit; what is accepted stays so, with the same totals and bytes, and the same cells are new
+abbrev Job : Type 0
+Job = List ℕ → List ℕ → Limits → Scan
+
+-- what both answers leave: the same new cells, in front of what was lent to each
+abbrev Same : List ℕ → List ℕ → List ℕ → List ℕ → Type 0
+Same l l′ m m′ = (new : List ℕ) × (m ≡ onto new l) × (m′ ≡ onto new l′)
+
+module _ (f : Job) (tb s : List ℕ) (lim lim′ : Limits) (l l′ : List ℕ) (r r′ : Scan) (m m′ : List ℕ) (c : Contract f tb s lim l r m) (d : Contract f tb s lim′ l′ r′ m′)
+    (g : (f tb s (cutTo (length l) lim) ≡ f tb s (cutTo (length l′) lim′)) ⊎ ByLimit (f tb s (cutTo (length l) lim))) where
+  changes : (r ≡ r′) ⊎ ByLimit r
+  changes = ⊎-elim (λ e. inl (c .answers ∙ e ∙ sym (d .answers))) (λ e. inr (subst ByLimit (sym (c .answers)) e)) g
+
+  keeps : Decided tb s (cutTo (length l) lim) (f tb s (cutTo (length l) lim)) → Wider (cutTo (length l) lim) (cutTo (length l′) lim′) → (u : Totals) (n : ℕ) → r ≡ done u n
+      → (r′ ≡ done u n) × Same l l′ m m′
+  unfolding ByLimit
+  keeps D w u n e =
+      let k : r′ ≡ done u n = ⊎-elim (λ h. sym h ∙ e) (λ h. absurd (subst ByLimit e h)) changes in
+      let same = scanned-wider (cutTo (length l) lim) (cutTo (length l′) lim′) w (root tb) s u n (D u n (sym (c .answers) ∙ e) .1) in (
+        k,
+        (
+          scanned (root tb) (cutTo (length l) lim) s,
+          c .writes ∙ ap (λ x. cellsAfter (scanned (root tb) (cutTo (length l) lim) s) x l) e,
+          d .writes ∙ ap (λ x. cellsAfter (scanned (root tb) (cutTo (length l′) lim′) s) x l′) k ∙ ap (λ x. onto x l′) (sym same),
+        ),
+      )
+
+module _ (tb s : List ℕ) (lim lim′ : Limits) (l l′ : List ℕ) (r r′ : Scan) (m m′ : List ℕ) (w : Wider lim lim′) (h : length l ≤ length l′) where
+  cut : Wider (cutTo (length l) lim) (cutTo (length l′) lim′)
+  cut = cut-wider lim lim′ (length l) (length l′) w h
+
+  pub read-wider : Contract readFront tb s lim l r m → Contract readFront tb s lim′ l′ r′ m′ → (r ≡ r′) ⊎ ByLimit r
+  read-wider c d = changes readFront tb s lim lim′ l l′ r r′ m m′ c d (front-wider tb s _ _ cut)
+
+  pub read-kept : Contract readFront tb s lim l r m → Contract readFront tb s lim′ l′ r′ m′ → (u : Totals) (n : ℕ) → r ≡ done u n → (r′ ≡ done u n) × Same l l′ m m′
+  read-kept c d = keeps readFront tb s lim lim′ l l′ r r′ m m′ c d (front-wider tb s _ _ cut) (front-decided tb s _) cut
+
+  -- of a whole message
+  pub whole-read-wider : Contract readWhole tb s lim l r m → Contract readWhole tb s lim′ l′ r′ m′ → (r ≡ r′) ⊎ ByLimit r
+  whole-read-wider c d = changes readWhole tb s lim lim′ l l′ r r′ m m′ c d (whole-wider tb s _ _ cut)
+
+  pub whole-read-kept : Contract readWhole tb s lim l r m → Contract readWhole tb s lim′ l′ r′ m′ → (u : Totals) (n : ℕ) → r ≡ done u n → (r′ ≡ done u n) × Same l l′ m m′
+  whole-read-kept c d = keeps readWhole tb s lim lim′ l l′ r r′ m m′ c d (whole-wider tb s _ _ cut) (whole-decided tb s _) cut
+
+-- DEMAND 3: added bytes change only a refusal as short; what is accepted stays so, cells and all
+module _ (tb s x : List ℕ) (lim : Limits) (l : List ℕ) (r r′ : Scan) (m m′ : List ℕ) (c : Contract readFront tb s lim l r m) (d : Contract readFront tb (s ++ x) lim l r′ m′) where
+  pub read-grown : (r ≡ r′) ⊎ Short r
+  read-grown = ⊎-elim (λ e. inl (c .answers ∙ e ∙ sym (d .answers))) (λ e. inr (subst Short (sym (c .answers)) e)) (front-grown tb s x (cutTo (length l) lim))
+
+  pub read-grown-kept : (u : Totals) (n : ℕ) → r ≡ done u n → (r′ ≡ done u n) × (m′ ≡ m)
+  read-grown-kept u n e =
+      let never : Short (done u n) → r′ ≡ done u n = λ h. absurd (let z : _≡_ {A = ℕ} 0 1 = cc (h .2) in omega arith) in
+      let k : r′ ≡ done u n = ⊎-elim (λ h. sym h ∙ e) (λ h. never (subst Short e h)) read-grown in
+      let same = scanned-grown (root tb) (cutTo (length l) lim) s x u n (front-decided tb s (cutTo (length l) lim) u n (sym (c .answers) ∙ e) .1) in (
+        k,
+        d .writes ∙ ap (λ y. cellsAfter (scanned (root tb) (cutTo (length l) lim) (s ++ x)) y l) k ∙ ap (λ y. onto y l) (sym same)
+            ∙ sym (c .writes ∙ ap (λ y. cellsAfter (scanned (root tb) (cutTo (length l) lim) s) y l) e),
+      )

@@ -1,26 +1,16 @@
 // Reading any bytes under limits, by any table: at the front of a message or the whole of it, into lent cells or only to measure. A reading goes over the message
 // twice: first with no cells, to decide, and then, if it is accepted, to fill; so a refusal leaves the lent cells as they were.
-mod bits;
-mod leaf;
-mod meter;
-mod walk;
-
 ghost use mathlib.Core.Path.{_≡_};
 ghost use Prim.Native.Nat.{_≤_, min};
 ghost use lib.ListN.{length};
-ghost use lib.Seq.{sets};
-ghost use Rattle.rules.specs.Table.{checkTable, numbersOf, root};
-ghost use Rattle.rules.specs.Totals.{foot};
-ghost use Rattle.rules.specs.Scan.{scan, scanned, filling};
-ghost use Rattle.rules.specs.Jobs.{readFront, readWhole, cutTo, cellsAfter};
 ghost use Rattle.rules.specs.Demands.{Decided};
-use meter::Meter;
-use meter::refused;
-use rules::Check;
+ghost use Rattle.rules.specs.Jobs.{readFront, readWhole, cutTo, cellsAfter};
+ghost use Rattle.rules.specs.Scan.{scanned, filling};
+ghost use Rattle.rules.specs.Table.{root};
 use rules::Limits;
+use rules::Refusal;
 use rules::Scan;
-use rules::Totals;
-use walk::scan_item;
+use scan::scan_front;
 
 fn smaller(x: u64, y: u64) -> u64
     ensures { λ r. ⌜ r ≡ min x y ⌝ }
@@ -31,46 +21,12 @@ fn smaller(x: u64, y: u64) -> u64
     y
 }
 
-// The value of the root of a checked table at the front of s, with its cells from the first lent one on.
-fn scan_root(table: &[u8], feet: &[u64], s: &[u8], limits: Limits, cells: &mut [u64]) -> Scan
-    requires { ⌜ (checkTable (now table) ≡ Check.Fine) × (now feet ≡ numbersOf foot (now table)) ⌝ }
-    ensures answers { λ r. ⌜ r ≡ scan (root (now (table .entry))) limits (now (s .entry)) ⌝ }
-    ensures writes { λ _. ⌜ now (cells .exit) ≡ sets (now (cells .entry)) 0 (scanned (root (now (table .entry))) limits (now (s .entry))) ⌝ }
-{
-    let units = table::units(table);
-    let node = table[5] as usize - 1;
-    let totals = Totals {
-        depth: 0,
-        charge: 0,
-        cells: 0,
-    };
-    scan_item(
-        table,
-        feet,
-        &units,
-        node,
-        0,
-        0,
-        s,
-        Meter { limits, totals },
-        cells,
-    )
-}
-
 // Measures the value at the front of s: what reading it would answer if C cells were lent.
 pub fn measure_front(table: &[u8], s: &[u8], limits: Limits) -> Scan
     ensures { λ r. ⌜ r ≡ readFront (now (table .entry)) (now (s .entry)) limits ⌝ }
 {
-    let found = table::footprints(table);
-    let check = found.check;
-    match check {
-        Check::Refused(y) => Scan::Refused(y),
-        Check::Fine => {
-            let feet = found.feet;
-            let mut none = [0u64; 1];
-            scan_root(table, &feet, s, limits, &mut none[..0])
-        }
-    }
+    let mut none = [0u64; 1];
+    scan_front(table, s, limits, &mut none[..0])
 }
 
 // Bytes left over are refused, last.
@@ -81,7 +37,10 @@ fn filling_all(s: &[u8], answer: Scan) -> Scan
         Scan::Refused(y) => Scan::Refused(y),
         Scan::Done(t, used) => {
             if used < s.len() {
-                return refused(rules::BYTES_LEFT, used);
+                return Scan::Refused(Refusal {
+                    number: rules::BYTES_LEFT,
+                    place: used,
+                });
             }
             Scan::Done(t, used)
         }
@@ -115,8 +74,7 @@ fn fill(table: &[u8], s: &[u8], limits: Limits, answer: Scan, cells: &mut [u64])
     match answer {
         Scan::Refused(y) => Scan::Refused(y),
         Scan::Done(t, used) => {
-            let feet = table::footprints(table).feet;
-            scan_root(table, &feet, s, limits, cells);
+            scan_front(table, s, limits, cells);
             Scan::Done(t, used)
         }
     }

@@ -1,5 +1,1 @@
-pub mod Putting
-pub mod Leaves
-pub mod Lanes
-pub mod Walking
 pub mod Carrying

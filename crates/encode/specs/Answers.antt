@@ -34,7 +34,6 @@ use Rattle.rules.specs.declared.Scan.the-variants.{Done as done}
 use Rattle.rules.specs.declared.Totals.{Totals}
 use Rattle.rules.specs.declared.Written.{Written}
 use Rattle.rules.specs.declared.Written.the-variants.{Bytes as wroteBytes, Refused as notWritten}
-use Rattle.table.specs.Nodes.{most}
 
 -- what a contract says for the job o
 pub record Contract (o : Output) (out : List ℕ) (r : Written) (m : List ℕ) : Type 0 where

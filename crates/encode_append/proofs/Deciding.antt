@@ -40,7 +40,7 @@ use Rattle.rules.specs.declared.Refusal.{Refusal}
 use Rattle.rules.specs.declared.Width.the-variants.{W4 as w4}
 use Rattle.rules.specs.declared.Written.{Written}
 use Rattle.rules.specs.declared.Written.the-variants.{Bytes as wroteBytes, Refused as notWritten}
-use Rattle.table.specs.Laws.{node-good, no-vector}
+use Rattle.node.specs.Laws.{node-good, no-vector}
 use Rattle.encode_append.specs.Answers.{Held, byUsed, held-append, few-append, why-refused}
 use Rattle.encode_append.specs.Joins.{heads, noHeads, rootCheck, lengthsOf, itemsBehind, bytesOf, Joins}
 

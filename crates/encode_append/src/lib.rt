@@ -45,7 +45,7 @@ fn check_root(table: &[u8]) -> Check
         Check::Refused(y) => Check::Refused(y),
         Check::Fine => {
             let node = table[5] as usize - 1;
-            match table::node_at(table, node) {
+            match node::node_at(table, node) {
                 Node::Vector(_) => Check::Fine,
                 _ => Check::Refused(because(rules::APPEND_ROOT)),
             }
@@ -62,7 +62,7 @@ fn counted(old: u64, len: usize, k: u64) -> Lengths
         return Lengths::Refused(because(rules::APPEND_COUNT));
     }
     let new_count = old + k;
-    Lengths::Of(new_count, len, compact::encoded_len(new_count, 0))
+    Lengths::Of(new_count, len, compact_put::encoded_len(new_count, 0))
 }
 
 // The heads, from the used bytes and the number of new items. Where there are no bytes the old count is 0, and it has no head.
@@ -141,7 +141,7 @@ fn replace_head(buf: &mut [u8], used: usize, count: u64, old: usize, new: usize)
     ensures { λ _. ⌜ now (buf .exit) ≡ onto (compactBytes count ++ drop old (take used (now (buf .entry)))) (now (buf .entry)) ⌝ }
 {
     shift_up(buf, old, new, used - old);
-    compact::put(count, 0, buf, 0);
+    compact_put::put(count, 0, buf, 0);
 }
 
 // Appends k items, which the cells say, to the vector that the first `used` bytes of the buffer hold, or makes one of them where `used` is 0. The answer is how many

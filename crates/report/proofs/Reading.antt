@@ -1,7 +1,7 @@
 -- From the reading into 4096 cells to the report: r is its answer, and m the cells afterwards.
-use mathlib.Core.List.{List}
+use mathlib.Core.List.{List, _++_}
 use mathlib.Core.Path.{_≡_, ap, sym, _∙_}
-use Prim.Native.Nat.{ℕ, _+_, _*_, _^_, _≤_, _<_}
+use Prim.Native.Nat.{ℕ, _≤_}
 use native.Mathlib.Omega.{arith}
 use lib.ListN.{length, take, drop, length-take, replicate, length-replicate}
 use lib.Seq.{take-at}
@@ -16,8 +16,8 @@ use Rattle.rules.specs.declared.Scan.the-variants.{Done as done, Refused as sto
 use Rattle.rules.specs.declared.Totals.{Totals}
 use Rattle.report.specs.Text.{okLine, refusedLine, cellLine, programLimits, reportOf}
 use Rattle.report.specs.Puts.{Puts}
-use Rattle.report.specs.Answers.{ok-length, report-refused, report-done, cells-counted}
-use Rattle.report.proofs.Writing.{same-text, then}
+use Rattle.report.specs.Answers.{report-refused, report-done, cells-counted}
+use Rattle.report.proofs.Writing.{same-text}
 
 -- the cells before
 abbrev blank : List ℕ
@@ -48,11 +48,10 @@ module _ (tb s m : List ℕ) (r : Scan) (f : Filled tb s m r) where
       ∙ ap (λ (x : Limits). onto (scanned (root tb) x s) blank) uncut in
       (c .1, ap (take (u .cells)) w ∙ take-at passed (drop (length passed) blank) (u .cells) (sym (c .0)))
 
-  pub done-put : (u : Totals) (n : ℕ) (out mid text : List ℕ) (i k : ℕ) → r ≡ done u n → Puts (okLine u n) 0 out i mid → Puts (flat cellLine (take (u .cells) m)) i mid k text
-      → Puts (reportOf tb s) 0 out k text
-  done-put u n out mid text i k e p q =
-      same-text (sym (report-done tb s u n (answered (done u n) e))) (then p (same-text (ap (flat cellLine) (cells-there u n e .1)) q))
+  pub done-put : (u : Totals) (n : ℕ) (out text : List ℕ) (k : ℕ) → r ≡ done u n → Puts (okLine u n ++ flat cellLine (take (u .cells) m)) 0 out k text → Puts (reportOf tb s) 0 out k text
+  done-put u n out text k e p =
+      same-text (ap (λ (l : List ℕ). okLine u n ++ flat cellLine l) (cells-there u n e .1) ∙ sym (report-done tb s u n (answered (done u n) e))) p
 
--- a position for the cells
-pub room-for-cells : (u : Totals) (n k : ℕ) (out mid m : List ℕ) (i : ℕ) → k ≤ 4096 → Puts (okLine u n) 0 out i mid → i + 21 * length (take k m) < 2 ^ 64
-room-for-cells u n k out mid m i h p = omega (arith, p .ends, ok-length u n, length-take k m)
+-- so many cells at most
+pub cut-short : (k : ℕ) (m : List ℕ) → k ≤ 4096 → length (take k m) ≤ 4096
+cut-short k m h = omega (arith, length-take k m)

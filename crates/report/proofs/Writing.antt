@@ -9,11 +9,11 @@ use lib.ListN.{length, take, getD, set, length-append, length-take}
 use lib.Seq.{sets, take-suc, take-all}
 use Rattle.rules.specs.Basics.{flat}
 use Rattle.rules.specs.Places.{sets-join, sets-length}
-use Rattle.report.specs.Text.{cellLine}
-use Rattle.report.specs.Puts.{Puts}
+use Rattle.report.specs.Text.{spaced, cellLine}
+use Rattle.report.specs.Puts.{Puts, ended}
 use Rattle.report.specs.Answers.{cells-length}
 
-byte-put : (l m : List ℕ) (at v : ℕ) → m ≡ set l at v → Puts (v ∷ []) at l (at + 1) m
+pub byte-put : (l m : List ℕ) (at v : ℕ) → m ≡ set l at v → Puts (v ∷ []) at l (at + 1) m
 byte-put l m at v e = record { ends = refl; holds = e }
 
 pub put-length : {a l m : List ℕ} {at r : ℕ} → Puts a at l r m → length m ≡ length l
@@ -33,6 +33,19 @@ same-text {l = l} {m = m} {at = at} {r = r} e p = subst (λ x. Puts x at l r m) 
 -- from the front
 pub put-front : {a l m : List ℕ} {r : ℕ} → Puts a 0 l r m → (r ≡ length a) × (m ≡ sets l 0 a)
 put-front {a} p = (omega (arith, p .ends), p .holds)
+
+-- ---- numbers behind a space
+
+spaced-out : (t : List ℕ) (n c : ℕ) → (t ++ (32 ∷ [])) ++ ended n c ≡ (t ++ spaced n) ++ (c ∷ [])
+spaced-out t n c = append-assoc t (32 ∷ []) (ended n c) ∙ sym (append-assoc t (spaced n) (c ∷ []))
+
+pub then-two : (t : List ℕ) (a b c : ℕ) {l m k : List ℕ} {at i j : ℕ} → Puts (t ++ (32 ∷ [])) at l i m → Puts (ended a 32 ++ ended b c) i m j k
+    → Puts (((t ++ spaced a) ++ spaced b) ++ (c ∷ [])) at l j k
+then-two t a b c p q =
+    let s = t ++ (32 ∷ []) in
+    same-text (sym (append-assoc s (ended a 32) (ended b c)) ∙ ap (λ (x : List ℕ). x ++ ended b c) (spaced-out t a 32) ∙ spaced-out (t ++ spaced a) b c) (then p q)
+
+-- ---- lists
 
 -- the first i of a list, and one more
 take-next : (s : List ℕ) (i : ℕ) → i < length s → take i s ++ (getD s i 0 ∷ []) ≡ take (i + 1) s
@@ -58,10 +71,11 @@ flat-append : {A : Type 0} (f : A → List ℕ) (a b : List A) → flat f (a ++ 
 flat-append f [] b = refl
 flat-append f (x ∷ a) b = ap (λ l. f x ++ l) (flat-append f a b) ∙ sym (append-assoc (f x) (flat f a) (flat f b))
 
-pub cell-more : (s l m k : List ℕ) (at i e r : ℕ) → i < length s → Puts (flat cellLine (take i s)) at l e m → Puts (cellLine (getD s i 0)) e m r k
+pub cell-more : (s l m k : List ℕ) (at i e r : ℕ) → i < length s → Puts (flat cellLine (take i s)) at l e m → Puts (ended (getD s i 0) 10) e m r k
     → Puts (flat cellLine (take (i + 1) s)) at l r k
+unfolding cellLine
 cell-more s l m k at i e r h p q =
-    let line : cellLine (getD s i 0) ≡ flat cellLine (getD s i 0 ∷ []) = sym (append-nil (cellLine (getD s i 0))) in
+    let line : ended (getD s i 0) 10 ≡ flat cellLine (getD s i 0 ∷ []) = sym (append-nil (ended (getD s i 0) 10)) in
     same-text (sym (flat-append cellLine (take i s) (getD s i 0 ∷ [])) ∙ ap (flat cellLine) (take-next s i h)) (then p (same-text line q))
 
 -- none

@@ -11,7 +11,7 @@ use Rattle.rules.specs.Table.{nodeOf, nodeAt, nodeIn, tyBy, tyAt, root, allowed
 use Rattle.rules.specs.Totals.{foot}
 use Rattle.rules.specs.Trace.{longer, _▷_, repeat, on, trace}
 use Rattle.rules.specs.Cells.{leafCells}
-use Rattle.rules.specs.Wire.{numberFrom, placed, leafFrom}
+use Rattle.rules.specs.Wire.{whole, numberFrom, placed, leafFrom}
 use Rattle.report.specs.Text.{decimalIn, decimal, okLine, cellLine, reportLines, reportOf}
 
 -- 57 54 44 01 00 02 03 02 00 00 0a 00 00 00: a vector of 16-bit numbers
@@ -29,5 +29,5 @@ pub example : reportOf shorts oneAndTwo
     ∷ 49 ∷ 10
     ∷ 50 ∷ 10
     ∷ []
-unfolding leValue fits settled form0 compactFrom readWhole more next mapRes barred unless finish run kept finished scan scanned filling scanAll nodeOf nodeAt nodeIn tyBy tyAt root allowed nodesFrom headCheck checkTable foot longer _▷_ repeat on trace leafCells numberFrom placed leafFrom decimalIn decimal okLine cellLine reportLines reportOf
+unfolding leValue fits settled form0 compactFrom readWhole more next mapRes barred unless finish run kept finished scan scanned filling scanAll nodeOf nodeAt nodeIn tyBy tyAt root allowed nodesFrom headCheck checkTable foot longer _▷_ repeat on trace leafCells whole numberFrom placed leafFrom decimalIn decimal okLine cellLine reportLines reportOf
 example = refl

@@ -2,15 +2,15 @@
 // refusal. It is put into lent memory; a byte past the end of that is not written, and the answer is how long the whole text is. So a caller that lends MOST
 // bytes has all of it.
 ghost use mathlib.Core.Path.{_≡_};
-ghost use mathlib.Core.List.{[], _∷_};
+ghost use mathlib.Core.List.{_++_};
 ghost use Prim.Native.Nat.{_+_, _*_, _≤_, _<_, _^_};
 ghost use lib.ListN.{length, set};
 ghost use lib.Seq.{sets};
 ghost use Rattle.rules.specs.Basics.{flat};
-ghost use Rattle.report.specs.Text.{decimal, spaced, okLine, refusedLine, cellLine, reportOf, unreadable};
-ghost use Rattle.report.specs.Puts.{Puts};
+ghost use Rattle.rules.specs.Refusals.{because};
+ghost use Rattle.report.specs.Text.{okLine, refusedLine, cellLine, reportOf, unreadable};
+ghost use Rattle.report.specs.Puts.{Puts, ended};
 use rules::Limits;
-use rules::Refusal;
 use rules::Scan;
 use rules::Totals;
 
@@ -49,51 +49,34 @@ fn put(text: &[u8], out: &mut [u8], at: usize) -> usize
     at + i
 }
 
-fn put_decimal(n: u64, out: &mut [u8], at: usize) -> usize
-    requires { ⌜ at + 20 < 2 ^ 64 ⌝ }
-    ensures puts { λ r. ⌜ Puts (decimal n) at (now (out .entry)) r (now (out .exit)) ⌝ }
-    ensures short { λ r. ⌜ r ≤ at + 20 ⌝ }
+// A number in decimal, and one byte more.
+fn put_number(n: u64, last: u8, out: &mut [u8], at: usize) -> usize
+    requires { ⌜ at + 21 < 2 ^ 64 ⌝ }
+    ensures puts { λ r. ⌜ Puts (ended n last) at (now (out .entry)) r (now (out .exit)) ⌝ }
+    ensures short { λ r. ⌜ r ≤ at + 21 ⌝ }
 {
     let mut digits = [0u8; 20];
     let k = io::decimal(n, &mut digits);
-    put(&digits[..k], out, at)
+    let end = put(&digits[..k], out, at);
+    store(out, end, last);
+    end + 1
 }
 
-fn put_spaced(n: u64, out: &mut [u8], at: usize) -> usize
-    requires { ⌜ at + 21 < 2 ^ 64 ⌝ }
-    ensures puts { λ r. ⌜ Puts (spaced n) at (now (out .entry)) r (now (out .exit)) ⌝ }
-    ensures short { λ r. ⌜ r ≤ at + 21 ⌝ }
+// Two numbers with a space between them, and one byte more.
+fn put_two(a: u64, b: u64, last: u8, out: &mut [u8], at: usize) -> usize
+    requires { ⌜ at + 42 < 2 ^ 64 ⌝ }
+    ensures puts { λ r. ⌜ Puts (ended a 32 ++ ended b last) at (now (out .entry)) r (now (out .exit)) ⌝ }
+    ensures short { λ r. ⌜ r ≤ at + 42 ⌝ }
 {
-    let next = put(b" ", out, at);
-    put_decimal(n, out, next)
+    let next = put_number(a, b' ', out, at);
+    put_number(b, last, out, next)
 }
 
-fn put_ok(totals: Totals, used: usize, out: &mut [u8]) -> usize
-    ensures { λ r. ⌜ Puts (okLine totals used) 0 (now (out .entry)) r (now (out .exit)) ⌝ }
+fn put_refused(number: u32, place: usize, out: &mut [u8]) -> usize
+    ensures { λ r. ⌜ Puts (refusedLine (because number place)) 0 (now (out .entry)) r (now (out .exit)) ⌝ }
 {
-    let word = put(b"ok", out, 0);
-    let bytes = put_spaced(used as u64, out, word);
-    let cells = put_spaced(totals.cells, out, bytes);
-    let charge = put_spaced(totals.charge, out, cells);
-    let depth = put_spaced(totals.depth as u64, out, charge);
-    put(b"\n", out, depth)
-}
-
-fn put_refused(refusal: Refusal, out: &mut [u8]) -> usize
-    ensures { λ r. ⌜ Puts (refusedLine refusal) 0 (now (out .entry)) r (now (out .exit)) ⌝ }
-{
-    let word = put(b"refused", out, 0);
-    let number = put_spaced(refusal.number as u64, out, word);
-    let place = put_spaced(refusal.place as u64, out, number);
-    put(b"\n", out, place)
-}
-
-fn put_cell(cell: u64, out: &mut [u8], at: usize) -> usize
-    requires { ⌜ at + 21 < 2 ^ 64 ⌝ }
-    ensures { λ r. ⌜ Puts (cellLine cell) at (now (out .entry)) r (now (out .exit)) ⌝ }
-{
-    let next = put_decimal(cell, out, at);
-    put(b"\n", out, next)
+    let word = put(b"refused ", out, 0);
+    put_two(number as u64, place as u64, b'\n', out, word)
 }
 
 fn put_cells(cells: &[u64], out: &mut [u8], at: usize) -> usize
@@ -103,10 +86,20 @@ fn put_cells(cells: &[u64], out: &mut [u8], at: usize) -> usize
     let mut end = at;
     let mut i = 0;
     while i < cells.len() {
-        end = put_cell(cells[i], out, end);
+        end = put_number(cells[i], b'\n', out, end);
         i += 1;
     }
     end
+}
+
+fn put_done(totals: Totals, used: usize, cells: &[u64], out: &mut [u8]) -> usize
+    requires { ⌜ length (now cells) ≤ 4096 ⌝ }
+    ensures { λ r. ⌜ Puts (okLine totals used ++ flat cellLine (now (cells .entry))) 0 (now (out .entry)) r (now (out .exit)) ⌝ }
+{
+    let word = put(b"ok ", out, 0);
+    let next = put_two(used as u64, totals.cells, b' ', out, word);
+    let end = put_two(totals.charge, totals.depth as u64, b'\n', out, next);
+    put_cells(cells, out, end)
 }
 
 // The report on a message: how long it is. It stands at the front of out, as far as it goes in, and what is behind it stays.
@@ -122,11 +115,10 @@ pub fn report(table: &[u8], message: &[u8], out: &mut [u8]) -> usize
     let mut cells = [0u64; CELLS];
     let answer = decode::read_whole(table, message, limits, &mut cells);
     match answer {
-        Scan::Refused(refusal) => put_refused(refusal, out),
+        Scan::Refused(refusal) => put_refused(refusal.number, refusal.place, out),
         Scan::Done(totals, used) => {
-            let end = put_ok(totals, used, out);
             let n = totals.cells as usize;
-            put_cells(&cells[..n], out, end)
+            put_done(totals, used, &cells[..n], out)
         }
     }
 }
@@ -136,11 +128,5 @@ pub fn report_unreadable(out: &mut [u8]) -> usize
     ensures answers { λ r. ⌜ r ≡ length unreadable ⌝ }
     ensures writes { λ _. ⌜ now (out .exit) ≡ sets (now (out .entry)) 0 unreadable ⌝ }
 {
-    put_refused(
-        Refusal {
-            number: UNREADABLE,
-            place: 0,
-        },
-        out,
-    )
+    put_refused(UNREADABLE, 0, out)
 }

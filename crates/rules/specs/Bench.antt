@@ -12,9 +12,9 @@ use Rattle.rules.specs.Compact.{significantIn, significant, long, compac
 use Rattle.rules.specs.Bits.{bitsValue, digits, pack, lanes}
 use Rattle.rules.specs.Parser.{got, more, next, mapRes, times}
 use Rattle.rules.specs.Form.{write, parse}
-use Rattle.rules.specs.Wire.{leafBytes, bitsBytes, encode, byteFrom, numberFrom, placed, leafFrom, lanesFrom, bitsBody, bitsFrom, read}
-use Rattle.rules.specs.Cells.{leafCells, cells}
-use Rattle.rules.specs.Totals.{foot, charge}
+use Rattle.rules.specs.Wire.{leafBytes, bitsBytes, encode, byteFrom, whole, numberFrom, placed, leafFrom, lanesIn, lanesFrom, bitsBody, bitsFrom, read}
+use Rattle.rules.specs.Cells.{leafCells}
+use Rattle.rules.specs.Totals.{foot}
 use Rattle.rules.specs.Trace.{longer, _▷_, repeat, on, laneTrace, trace}
 use Rattle.rules.specs.Scan.{Scan, done, stopped, barred, unless, finish, run, scan}
 
@@ -56,5 +56,5 @@ starredPlans =
     ∷ []
 
 pub starred : All Right starredPlans
-unfolding leValue leBytes significantIn significant long compactBytes fits settled form0 form1 form2 form3 compactFrom more next mapRes times bitsValue digits pack lanes write parse leafBytes bitsBytes byteFrom numberFrom placed leafFrom lanesFrom bitsBody bitsFrom leafCells foot longer _▷_ repeat on laneTrace trace barred unless finish run scan
+unfolding leValue leBytes significantIn significant long compactBytes fits settled form0 form1 form2 form3 compactFrom more next mapRes times bitsValue digits pack lanes write parse leafBytes bitsBytes byteFrom whole numberFrom placed leafFrom lanesIn lanesFrom bitsBody bitsFrom leafCells foot longer _▷_ repeat on laneTrace trace barred unless finish run scan
 starred = ((refl, refl), ((refl, refl), ((refl, refl), ((refl, refl), ((refl, refl), ((refl, refl), (refl, ((refl, refl), (refl, (refl, (refl, (refl, (refl, (refl, tt))))))))))))))

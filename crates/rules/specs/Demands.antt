@@ -13,9 +13,8 @@ use lib.Seq.{take-all}
 use Rattle.rules.specs.Refusals.{bytesLeftAt, outputSmall, cellsLeftAt}
 use Rattle.rules.specs.Basics.{pick, Under}
 use Rattle.rules.specs.Types.{Ty, Val, Fits}
-use Rattle.rules.specs.Compact.{fits}
 use Rattle.rules.specs.Parser.{Res, got, bad}
-use Rattle.rules.specs.Wire.{bytes, encode, read}
+use Rattle.rules.specs.Wire.{encode, read}
 use Rattle.rules.specs.Wire.Used.{read-used}
 use Rattle.rules.specs.Cells.{cells, unpack}
 use Rattle.rules.specs.Totals.{longest}

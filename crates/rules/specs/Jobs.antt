@@ -8,9 +8,8 @@ use Rattle.rules.specs.Refusals.{Refusal, because, outputSmall, cellsLef
 use Rattle.rules.specs.Basics.{pick, flat, onto}
 use Rattle.rules.specs.Types.{w4, compact, Ty, leaf, nothing, result, pair, array, vector, bits, Val}
 use Rattle.rules.specs.Parser.{Res, got, bad, times}
-use Rattle.rules.specs.Wire.{leafBytes, bytes, encode, leafFrom}
-use Rattle.rules.specs.Cells.{cells, unpack}
-use Rattle.rules.specs.Totals.{charge}
+use Rattle.rules.specs.Wire.{leafBytes, encode, leafFrom}
+use Rattle.rules.specs.Cells.{unpack}
 use Rattle.rules.specs.Scan.{Limits, Scan, done, stopped, scan, scanAll}
 use Rattle.rules.specs.Table.{Check, fine, wrong, root, checkTable, afterCheck}
 pub use Rattle.rules.specs.declared.Written.{Written}

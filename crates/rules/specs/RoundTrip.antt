@@ -8,7 +8,6 @@ use lib.Seq.{length-take-le, take-length}
 use Rattle.rules.specs.Basics.{All, Under}
 use Rattle.rules.specs.Types.{Ty, Val, Fits}
 use Rattle.rules.specs.Bytes.Laws.{under-take}
-use Rattle.rules.specs.Compact.{fits}
 use Rattle.rules.specs.Bits.{keep}
 use Rattle.rules.specs.Bits.Laws.{same-like, like-keep}
 use Rattle.rules.specs.Parser.{got}

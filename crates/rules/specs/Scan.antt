@@ -8,6 +8,7 @@ pub mod Refuse
 pub mod Held
 pub mod Units
 pub mod Single
+pub mod Landing
 pub mod Walk
 use mathlib.Core.List.{List, _++_, [], _∷_}
 use mathlib.Core.Option.{none, some, Option}
@@ -17,8 +18,6 @@ use lib.ListN.{length}
 use Rattle.rules.specs.Refusals.{Refusal, depthAt, memoryAt, roomAt, bytesLeftAt}
 use Rattle.rules.specs.Basics.{pick}
 use Rattle.rules.specs.Types.{Ty}
-use Rattle.rules.specs.Cells.{cells}
-use Rattle.rules.specs.Totals.{charge}
 use Rattle.rules.specs.Trace.{Event, plain, enter, Trace, ended, refused, item, trace}
 pub use Rattle.rules.specs.declared.Limits.{Limits}
 pub use Rattle.rules.specs.declared.Totals.{Totals}

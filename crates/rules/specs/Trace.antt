@@ -13,7 +13,7 @@ use Rattle.rules.specs.Bits.{words8, words64, pack}
 use Rattle.rules.specs.Parser.{Res, got, bad}
 use Rattle.rules.specs.Wire.{leafFrom, lanesFrom}
 use Rattle.rules.specs.Cells.{leafCells}
-use Rattle.rules.specs.Totals.{foot, charge}
+use Rattle.rules.specs.Totals.{foot}
 
 -- what the head of a vector or a bit vector asks of the limits
 pub record Head : Type 0 where
@@ -75,8 +75,8 @@ abbrev pub bitsHead : ℕ → ℕ → ℕ → Event
 bitsHead lv at c = enter (record { place = at; level = lv + 1; charge = words8 c; cell = c; extra = words64 c })
 
 -- the bytes of c bits, of a bit vector that starts at `at`
-unfoldable pub laneTrace : ℕ → ℕ → List ℕ → Trace
-laneTrace c at s = on (lanesFrom c at s) (λ v n. step (plain at (pack 64 (words64 c) v)) n)
+unfoldable pub laneTrace : ℕ → ℕ → Tracer
+laneTrace c at from s = on (lanesFrom c at from s) (λ v n. step (plain at (pack 64 (words64 c) v)) n)
 
 -- the trace of a type at level lv, the number of vectors around it
 unfoldable pub trace : Ty → ℕ → Tracer
@@ -88,4 +88,4 @@ trace (array n t) lv at s = repeat n (trace t lv) at s
 trace (vector t) lv at s = on (leafFrom (compact w4) at s) (λ c n. step (vectorHead (foot t) lv at c) n ▷ (λ m. repeat c (trace t (lv + 1)) (at + m) (drop m s)))
 trace bits lv at s =
     on (leafFrom (compact w4) at s)
-    (λ c n. pick (leb c maxBits) (step (bitsHead lv at c) n ▷ (λ m. laneTrace c at (drop m s))) (refused (bitCountAt at)))
+    (λ c n. pick (leb c maxBits) (step (bitsHead lv at c) n ▷ (λ m. laneTrace c at (at + m) (drop m s))) (refused (bitCountAt at)))

@@ -6,7 +6,7 @@ use mathlib.Core.List.{List, _++_, [], _∷_}
 use Prim.Native.Nat.{ℕ}
 use lib.Dec.{ltb, leb}
 use lib.ListN.{length, take, replicate}
-use Rattle.rules.specs.Refusals.{shortAt, tagAt, prefixAt, rangeAt, bitCountAt, maxBits}
+use Rattle.rules.specs.Refusals.{Refusal, shortAt, tagAt, prefixAt, rangeAt, bitCountAt, maxBits}
 use Rattle.rules.specs.Basics.{pick}
 use Rattle.rules.specs.Types.{w4, Leaf, unit, bool, optBool, fixed, compact, float, size, Ty, Val}
 use Rattle.rules.specs.Bytes.{leValue, leBytes}
@@ -49,9 +49,13 @@ unfoldable pub byteFrom : ℕ → Parser ℕ
 byteFrom m at [] = bad (shortAt at)
 byteFrom m at (b ∷ s) = pick (ltb b m) (got b 1) (bad (tagAt at))
 
+-- what stands in the first n bytes, or the refusal y where they are not all there
+unfoldable pub whole : {A : Type 0} → ℕ → Refusal → List ℕ → (List ℕ → Res A) → Res A
+whole n y s g = pick (ltb (length s) n) (bad y) (g (take n s))
+
 -- a number of n bytes
 unfoldable pub numberFrom : ℕ → Parser ℕ
-numberFrom n at s = pick (ltb (length s) n) (bad (shortAt at)) (got (leValue (take n s)) n)
+numberFrom n at s = whole n (shortAt at) s (λ l. got (leValue l) n)
 
 -- an answer of the compact rule
 unfoldable pub placed : ℕ → Answer → Res ℕ
@@ -68,16 +72,20 @@ leafFrom (fixed w) at s = numberFrom (size w) at s
 leafFrom (compact w) at s = placed at (compactFrom (size w) s)
 leafFrom (float w) at s = numberFrom (size w) at s
 
--- the bytes of n bits, of a bit vector that starts at `at`
-unfoldable pub lanesFrom : ℕ → ℕ → List ℕ → Res (List Bool)
-lanesFrom n at s = pick (ltb (length s) (words8 n)) (bad (shortAt at)) (got (lanes 8 n (take (words8 n) s)) (words8 n))
+-- n bits in the bytes that hold them, of a bit vector that starts at `at`
+unfoldable pub lanesIn : ℕ → ℕ → List ℕ → Res (List Bool)
+lanesIn n at l = got (lanes 8 n l) (words8 n)
+
+-- the bytes of n bits, of a bit vector that starts at `at`; they start at `from`
+unfoldable pub lanesFrom : ℕ → ℕ → Parser (List Bool)
+lanesFrom n at from s = whole (words8 n) (shortAt at) s (lanesIn n at)
 
 -- what stands after its head
-unfoldable pub bitsBody : ℕ → ℕ → List ℕ → Res (List Bool)
-bitsBody n at s = pick (leb n maxBits) (lanesFrom n at s) (bad (bitCountAt at))
+unfoldable pub bitsBody : ℕ → ℕ → Parser (List Bool)
+bitsBody n at from s = pick (leb n maxBits) (lanesFrom n at from s) (bad (bitCountAt at))
 
 unfoldable pub bitsFrom : Parser (List Bool)
-bitsFrom at s = bind (leafFrom (compact w4)) (λ n _ l. bitsBody n at l) at s
+bitsFrom at s = bind (leafFrom (compact w4)) (λ n. bitsBody n at) at s
 
 abbrev pub fromBytes : Reader
 fromBytes = record { leafIn = leafFrom; bitsIn = bitsFrom }

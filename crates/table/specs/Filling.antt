@@ -1,4 +1,4 @@
--- Laws of the loops over the nodes, which fill an array rising: of its first i places each has its node's number, and the others have 0.
+-- Laws of the loops over the nodes, which fill an array rising: of its first i places each has its node's number, and the others have 0. The numbers of this crate are footprints.
 use mathlib.Core.Bool.{true, false}
 use mathlib.Core.List.{List, _++_}
 use mathlib.Core.Path.{_≡_, refl, ap, sym, _∙_}
@@ -8,19 +8,18 @@ use native.Mathlib.Nat.{sub-zero}
 use native.Mathlib.Numerals.{add-one}
 use native.Mathlib.Omega.{arith}
 use borrow.Author.Count.{below-more}
-use lib.Dec.{lit<}
 use lib.ListN.{length, getD, set, replicate, length-set, length-replicate, length-append}
 use lib.Seq.{getD-set-same, getD-set-other, getD-append-add, ext-getD}
 use Rattle.rules.specs.declared.Refusal.{Refusal}
 use Rattle.rules.specs.Basics.{Under}
 use Rattle.rules.specs.Refusals.{wrongNodeAt, footprintAt, maxFootprint}
 use Rattle.rules.specs.Types.{Ty}
-use Rattle.rules.specs.Totals.{foot, longest}
-use Rattle.rules.specs.Table.{count, nodeAt, tyAt, allowed, nodesFrom, headCheck, checkTable, numbersFrom, numbersOf, footprintsOf, root}
-use Rattle.rules.specs.Table.Laws.{Below, Good, Passes, type-prefix, type-node, allowed-below, nodes-next, nodes-wrong, nodes-large, numbers-at, numbers-length, check-nodes, head-fine}
+use Rattle.rules.specs.Totals.{foot}
+use Rattle.rules.specs.Table.{count, nodeAt, tyAt, allowed, nodesFrom, headCheck, checkTable, numbersFrom, numbersOf, footprintsOf}
+use Rattle.rules.specs.Table.Laws.{Below, Passes, type-prefix, allowed-below, nodes-next, nodes-wrong, nodes-large, numbers-at, numbers-length, check-nodes, head-fine}
 use Rattle.table.specs.Names.{fine, wrong}
-use Rattle.table.specs.Nodes.{footOver, noFeet, longestOver, coded, decoded, Short, AllShort}
-use Rattle.table.specs.Laws.{foot-over, longest-over, coded-short, decoded-coded}
+use Rattle.table.specs.Nodes.{footOver, noFeet}
+use Rattle.table.specs.Laws.{foot-over}
 
 -- ---- an array that is being filled
 
@@ -41,7 +40,7 @@ measuring-none f tb = record { within = omega arith; size = refl; done = λ j h.
 
 module _ {f : Ty → ℕ} {tb : List ℕ} {i : ℕ} {l : List ℕ} (M : Measuring f tb i l) where
   -- what holds of 0 and of the numbers so far holds at every place
-  measuring-every : (P : ℕ → Type 0) → P 0 → ((j : ℕ) → j < i → P (f (tyAt tb j))) → (j : ℕ) → P (getD l j 0)
+  pub measuring-every : (P : ℕ → Type 0) → P 0 → ((j : ℕ) → j < i → P (f (tyAt tb j))) → (j : ℕ) → P (getD l j 0)
   measuring-every P z h j = go (decLt j i)
     where
       go : Dec (j < i) → P (getD l j 0)
@@ -141,23 +140,3 @@ module _ (tb : List ℕ) (f : headCheck tb ≡ fine) (i : ℕ) (l : List ℕ) (W
           where
             passes : Passes tb i
             passes = record { below = below i (omega arith); footing = rw q at g }
-
--- ---- longest lengths
-
-abbrev pub lengthCode : Ty → ℕ
-lengthCode t = coded (longest t)
-
--- in a good table
-module _ (tb : List ℕ) (G : Good tb) (i : ℕ) (l : List ℕ) (M : Measuring lengthCode tb i l) where
-  pub lengths-short : AllShort l
-  lengths-short = measuring-every M Short (λ z. lit< tt) (λ j q. coded-short (tyAt tb j) (G .feet j (omega (arith, M .within))))
-
-  read-back : (j : ℕ) → j < i → decoded (getD l j 0) ≡ longest (tyAt tb j)
-  read-back j q = rw (M .done j q) (decoded-coded (tyAt tb j) (G .feet j (omega (arith, M .within))))
-
-  pub length-root : count tb ≤ i → decoded (getD l (count tb - 1) 0) ≡ longest (root tb)
-  unfolding root
-  length-root g = read-back (count tb - 1) (omega (arith, G .some))
-
-  pub length-found : i < count tb → coded (longestOver (λ j. decoded (getD l j 0)) (nodeAt tb i)) ≡ lengthCode (tyAt tb i)
-  length-found r = ap coded (longest-over (λ j. decoded (getD l j 0)) (tyAt tb) i (nodeAt tb i) (G .nodes i r) read-back ∙ ap longest (sym (type-node tb G i r)))

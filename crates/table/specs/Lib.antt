@@ -1,5 +1,4 @@
 pub mod Names
 pub mod Nodes
 pub mod Laws
-pub mod Units
 pub mod Filling

@@ -21,9 +21,6 @@ mul-from c = omega arith
 sub-lesser : tie.Need-sub-lesser Inv-loop μ-loop
 sub-lesser c = omega arith
 
-lesser-requires : tie.Need-lesser-requires Inv-loop μ-loop
-lesser-requires c κs = search needs
-
 loop-holds : tie.Need-loop-holds Inv-loop μ-loop
 loop-holds c = (omega arith, sym (gathered-none 64 _ _ 8 _ (c .before .before .args .s .now) (c .before .before .pre .0) (c .lesser .ensures)))
 
@@ -75,7 +72,7 @@ cell-of-spec =
     μ-loop
     mul-from
     sub-lesser
-    lesser-requires
+    (λ c κs. search needs)
     loop-holds
     sub-left
     add-i

@@ -12,27 +12,12 @@ use Rattle.bit_vec.specs.Moves.{clearCells}
 use Rattle.bit_vec.proofs.clear.Statement.{statement}
 use Rattle.bit_vec.proofs.clear.Tie as tie
 
-cells-for-requires : tie.Need-cells-for-requires
-cells-for-requires c κs = search needs
-
-lesser-requires : tie.Need-lesser-requires
-lesser-requires c κs = search needs
-
 returns : tie.Need-returns
 unfolding clearCells
 returns c =
     let k = c .before .before .before in
     let a = k .before .args in
     sym (clear-whole 64 (a .n) (words64 (a .n)) (a .cells .now) (λ i. k .shared-slice-known .given i .fits) (omega arith))
-
-mul-result : tie.Need-mul-result
-mul-result c = search needs
-
-shared-slice-read-result : tie.Need-shared-slice-read-result
-shared-slice-read-result c = search needs
-
-shl-result : tie.Need-shl-result
-shl-result c = search needs
 
 returns-2 : tie.Need-returns-2
 unfolding clearCells
@@ -48,10 +33,10 @@ pub clear-spec : {M : Type 1} → statement M
 clear-spec =
     tie.close
     (tie.spec
-    cells-for-requires
-    lesser-requires
+    (λ c κs. search needs)
+    (λ c κs. search needs)
     returns
-    mul-result
-    shared-slice-read-result
-    shl-result
+    (λ c. search needs)
+    (λ c. search needs)
+    (λ c. search needs)
     returns-2)

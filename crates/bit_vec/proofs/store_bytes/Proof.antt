@@ -16,15 +16,6 @@ Inv-loop n cells out₀ at stop j₀ out j = (length out ≡ length out₀) × (
 abbrev μ-loop : tie.MeasureT-loop
 μ-loop n cells out₀ at stop j₀ out j = stop - j
 
-bytes-for-requires : tie.Need-bytes-for-requires Inv-loop μ-loop
-bytes-for-requires c κs = search needs
-
-room-requires : tie.Need-room-requires Inv-loop μ-loop
-room-requires c κs = search needs
-
-lesser-requires : tie.Need-lesser-requires Inv-loop μ-loop
-lesser-requires c κs = search needs
-
 loop-holds : tie.Need-loop-holds Inv-loop μ-loop
 loop-holds c = (refl, stored-all _ _ _ _ _)
 
@@ -60,9 +51,9 @@ store-bytes-spec =
     (tie.spec
     Inv-loop
     μ-loop
-    bytes-for-requires
-    room-requires
-    lesser-requires
+    (λ c κs. search needs)
+    (λ c κs. search needs)
+    (λ c κs. search needs)
     loop-holds
     byte-of-requires
     add-out

@@ -16,15 +16,6 @@ Inv-loop n s cells₀ at stop j₀ cells j = (length cells ≡ length cells₀) 
 abbrev μ-loop : tie.MeasureT-loop
 μ-loop n s cells₀ at stop j₀ cells j = stop - j
 
-cells-for-requires : tie.Need-cells-for-requires Inv-loop μ-loop
-cells-for-requires c κs = search needs
-
-room-requires : tie.Need-room-requires Inv-loop μ-loop
-room-requires c κs = search needs
-
-lesser-requires : tie.Need-lesser-requires Inv-loop μ-loop
-lesser-requires c κs = search needs
-
 loop-holds : tie.Need-loop-holds Inv-loop μ-loop
 loop-holds c = (refl, stored-all _ _ _ _ _)
 
@@ -63,9 +54,9 @@ store-cells-spec =
     (tie.spec
     Inv-loop
     μ-loop
-    cells-for-requires
-    room-requires
-    lesser-requires
+    (λ c κs. search needs)
+    (λ c κs. search needs)
+    (λ c κs. search needs)
     loop-holds
     cell-of-requires
     add-cells

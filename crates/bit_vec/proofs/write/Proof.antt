@@ -11,9 +11,6 @@ use Rattle.bit_vec.specs.Moves.{bitsWritten, bytesWritten}
 use Rattle.bit_vec.proofs.write.Statement.{statement}
 use Rattle.bit_vec.proofs.write.Tie as tie
 
-cells-for-requires : tie.Need-cells-for-requires
-cells-for-requires c κs = search needs
-
 returns : tie.Need-returns
 unfolding bitsWritten bytesWritten
 returns c =
@@ -26,12 +23,6 @@ slice-aggregate-store-bytes c = sym (length-take-le _ _ (c .before .if1 .left))
 store-bytes-requires : tie.Need-store-bytes-requires
 store-bytes-requires c κs = rw (length-take-le _ _ (c .before .before .if1 .left)) (omega arith)
 
-bytes-for-requires : tie.Need-bytes-for-requires
-bytes-for-requires c κs = search needs
-
-same-length : tie.Need-same-length
-same-length c = search needs
-
 returns-2 : tie.Need-returns-2
 unfolding bitsWritten bytesWritten
 returns-2 c =
@@ -43,10 +34,10 @@ pub write-spec : {M : Type 1} → statement M
 write-spec =
     tie.close
     (tie.spec
-    cells-for-requires
+    (λ c κs. search needs)
     returns
     slice-aggregate-store-bytes
     store-bytes-requires
-    bytes-for-requires
-    same-length
+    (λ c κs. search needs)
+    (λ c. search needs)
     returns-2)

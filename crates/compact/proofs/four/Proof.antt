@@ -15,12 +15,6 @@ returns-2 : tie.Need-returns-2
 unfolding form2
 returns-2 c = simp (le-ltb _ _ (c .before .if1 .left), lt-ltb _ _ (c .if2 .taken))
 
-joined-requires : tie.Need-joined-requires
-joined-requires c κs = search needs
-
-settle-requires : tie.Need-settle-requires
-settle-requires c κs = search needs
-
 returns-3 : tie.Need-returns-3
 unfolding form2
 returns-3 c =
@@ -28,4 +22,4 @@ returns-3 c =
     (c .settle .ensures ∙ one-half _ _ _ _ _ (c .before .joined .ensures))
 
 pub four-spec : {M : Type 1} → statement M
-four-spec = tie.close (tie.spec returns returns-2 joined-requires settle-requires returns-3)
+four-spec = tie.close (tie.spec returns returns-2 (λ c κs. search needs) (λ c κs. search needs) returns-3)

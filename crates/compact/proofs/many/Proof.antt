@@ -23,35 +23,8 @@ returns-3 : tie.Need-returns-3
 unfolding form3
 returns-3 c = simp (le-ltb _ _ (c .before .if1 .left), lt-ltb _ _ (c .if3 .taken))
 
-word-requires : tie.Need-word-requires
-word-requires c κs = search needs
-
-settle-long-requires : tie.Need-settle-long-requires
-settle-long-requires c κs = search needs
-
 returns-4 : tie.Need-returns-4
 returns-4 c = c .settle-long .ensures ∙ ap inHalves (form3-there _ _ _ _ (omega arith) (omega arith) (omega (arith, one-word (c .before .before .before .before .before .before .args .n) _ _ (c .before .word .ensures) (omega arith))))
-
-word-requires-2 : tie.Need-word-requires-2
-word-requires-2 c κs = search needs
-
-sub-word : tie.Need-sub-word
-sub-word c = search needs
-
-part-word-start : tie.Need-part-word-start
-part-word-start c = search needs
-
-part-word-end : tie.Need-part-word-end
-part-word-end c = search needs
-
-sub-word-2 : tie.Need-sub-word-2
-sub-word-2 c = search needs
-
-word-requires-3 : tie.Need-word-requires-3
-word-requires-3 c κs = search needs
-
-settle-long-requires-2 : tie.Need-settle-long-requires-2
-settle-long-requires-2 c κs = search needs
 
 returns-5 : tie.Need-returns-5
 returns-5 c =
@@ -66,14 +39,14 @@ many-spec =
     returns
     returns-2
     returns-3
-    word-requires
-    settle-long-requires
+    (λ c κs. search needs)
+    (λ c κs. search needs)
     returns-4
-    word-requires-2
-    sub-word
-    part-word-start
-    part-word-end
-    sub-word-2
-    word-requires-3
-    settle-long-requires-2
+    (λ c κs. search needs)
+    (λ c. search needs)
+    (λ c. search needs)
+    (λ c. search needs)
+    (λ c. search needs)
+    (λ c κs. search needs)
+    (λ c κs. search needs)
     returns-5)

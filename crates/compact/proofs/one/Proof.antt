@@ -6,18 +6,9 @@ use Rattle.compact.proofs.Answers.{one-half}
 use Rattle.compact.proofs.one.Statement.{statement}
 use Rattle.compact.proofs.one.Tie as tie
 
-upper-requires : tie.Need-upper-requires
-upper-requires c κs = search needs
-
-cast-settle : tie.Need-cast-settle
-cast-settle c = search needs
-
-settle-requires : tie.Need-settle-requires
-settle-requires c κs = search needs
-
 returns : tie.Need-returns
 unfolding form0
 returns c = c .settle .ensures ∙ one-half _ _ _ _ _ (c .before .upper .ensures)
 
 pub one-spec : {M : Type 1} → statement M
-one-spec = tie.close (tie.spec upper-requires cast-settle settle-requires returns)
+one-spec = tie.close (tie.spec (λ c κs. search needs) (λ c. search needs) (λ c κs. search needs) returns)

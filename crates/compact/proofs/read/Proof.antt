@@ -15,21 +15,6 @@ use Rattle.compact.proofs.read.Tie as tie
 returns : tie.Need-returns
 returns c = ap inHalves (at-none _ _ (c .if1 .taken))
 
-size-requires : tie.Need-size-requires
-size-requires c κs = search needs
-
-shared-slice-read-b : tie.Need-shared-slice-read-b
-shared-slice-read-b c = search needs
-
-sub-read-from : tie.Need-sub-read-from
-sub-read-from c = search needs
-
-part-read-from-start : tie.Need-part-read-from-start
-part-read-from-start c = search needs
-
-part-read-from-end : tie.Need-part-read-from-end
-part-read-from-end c = search needs
-
 read-from-requires : tie.Need-read-from-requires
 read-from-requires c κs = omega (arith, c .before .before .size .ensures, size-le (c .before .before .before .before .before .args .width))
 
@@ -41,10 +26,10 @@ read-spec =
     tie.close
     (tie.spec
     returns
-    size-requires
-    shared-slice-read-b
-    sub-read-from
-    part-read-from-start
-    part-read-from-end
+    (λ c κs. search needs)
+    (λ c. search needs)
+    (λ c. search needs)
+    (λ c. search needs)
+    (λ c. search needs)
     read-from-requires
     returns-2)

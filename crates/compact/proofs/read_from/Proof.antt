@@ -10,27 +10,6 @@ use Rattle.compact.specs.Halves.{inHalves}
 use Rattle.compact.proofs.read_from.Statement.{statement}
 use Rattle.compact.proofs.read_from.Tie as tie
 
-form-requires : tie.Need-form-requires
-form-requires c κs = search needs
-
-one-requires : tie.Need-one-requires
-one-requires c κs = search needs
-
-two-requires : tie.Need-two-requires
-two-requires c κs = search needs
-
-four-requires : tie.Need-four-requires
-four-requires c κs = search needs
-
-upper-requires : tie.Need-upper-requires
-upper-requires c κs = search needs
-
-add-many : tie.Need-add-many
-add-many c = search needs
-
-many-requires : tie.Need-many-requires
-many-requires c κs = search needs
-
 returns : tie.Need-returns
 returns c = c .one .ensures ∙ ap inHalves (at-0 _ _ _ (sym (c .before .before .form .ensures) ∙ c .before .match .keys1))
 
@@ -50,13 +29,13 @@ pub read-from-spec : {M : Type 1} → statement M
 read-from-spec =
     tie.close
     (tie.spec
-    form-requires
-    one-requires
-    two-requires
-    four-requires
-    upper-requires
-    add-many
-    many-requires
+    (λ c κs. search needs)
+    (λ c κs. search needs)
+    (λ c κs. search needs)
+    (λ c κs. search needs)
+    (λ c κs. search needs)
+    (λ c. search needs)
+    (λ c κs. search needs)
     returns
     returns-2
     returns-3

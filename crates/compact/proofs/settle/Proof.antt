@@ -1,11 +1,9 @@
 -- `compact::settle` meets its contract. Assumes nothing.
 use borrow.Author.Needs.{needs}
-use Rattle.compact.proofs.Answers.{refuse-low, refuse-wide, accept, under-low, over-low, over-high}
+use Rattle.compact.specs.Sizes.{under-low, over-low, over-high}
+use Rattle.compact.proofs.Answers.{refuse-low, refuse-wide, accept}
 use Rattle.compact.proofs.settle.Statement.{statement}
 use Rattle.compact.proofs.settle.Tie as tie
-
-significant-requires : tie.Need-significant-requires
-significant-requires c κs = search needs
 
 returns : tie.Need-returns
 returns c = refuse-wide _ _ _ _ (rw (c .before .significant .ensures) at (c .if1 .taken))
@@ -24,4 +22,4 @@ returns-4 c =
     (rw (c .before .before .significant .ensures) at (c .before .if1 .left)) (over-high _ _ _ (c .if2 .left) (c .before .before .before .fits .least .fits))
 
 pub settle-spec : {M : Type 1} → statement M
-settle-spec = tie.close (tie.spec significant-requires returns returns-2 returns-3 returns-4)
+settle-spec = tie.close (tie.spec (λ c κs. search needs) returns returns-2 returns-3 returns-4)

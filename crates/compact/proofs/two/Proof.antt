@@ -11,15 +11,9 @@ returns : tie.Need-returns
 unfolding form1
 returns c = simp (lt-ltb _ _ (c .if1 .taken))
 
-joined-requires : tie.Need-joined-requires
-joined-requires c κs = search needs
-
-settle-requires : tie.Need-settle-requires
-settle-requires c κs = search needs
-
 returns-2 : tie.Need-returns-2
 unfolding form1
 returns-2 c = simp (le-ltb _ _ (c .before .before .if1 .left)) (c .settle .ensures ∙ one-half _ _ _ _ _ (c .before .joined .ensures))
 
 pub two-spec : {M : Type 1} → statement M
-two-spec = tie.close (tie.spec returns joined-requires settle-requires returns-2)
+two-spec = tie.close (tie.spec returns (λ c κs. search needs) (λ c κs. search needs) returns-2)

@@ -1,29 +1,13 @@
 use borrow.Author.Needs.{needs}
-use Rattle.rules.specs.Refusals.{because}
 use Rattle.encode.proofs.Carrying.{settle-none, settle-left, settle-small, settle-all}
 use Rattle.encode.proofs.settled.Statement.{statement}
 use Rattle.encode.proofs.settled.Tie as tie
-use Rattle.encode.proofs.settled.Reads as reads
-use Rattle.encode.proofs.settled.Lts as lts
-use Rattle.encode.proofs.leaf.because.Reads as because-reads
-
-enum-known-put : tie.Need-enum-known-put
-enum-known-put c = search needs
-
-enum-known-put-2 : tie.Need-enum-known-put-2
-enum-known-put-2 c = search needs
-
-because-requires : tie.Need-because-requires
-because-requires c κs = search needs
 
 returns : tie.Need-returns
-returns c = settle-left _ _ _ _ _ (c .before .before .before .put2 .given .1) _ (c .before .if1 .taken) (c .because .ensures)
-
-because-requires-2 : tie.Need-because-requires-2
-because-requires-2 c κs = search needs
+returns c = settle-left _ _ _ _ _ (c .before .before .before .put2 .given .1) _ (c .before .if1 .taken) (c .refused .ensures)
 
 returns-2 : tie.Need-returns-2
-returns-2 c = settle-small _ _ _ _ _ (c .before .before .before .before .put2 .given .1) (c .before .before .if1 .left) _ (c .before .if2 .taken) (c .because2 .ensures)
+returns-2 c = settle-small _ _ _ _ _ (c .before .before .before .before .put2 .given .1) (c .before .before .if1 .left) _ (c .before .if2 .taken) (c .refused2 .ensures)
 
 returns-3 : tie.Need-returns-3
 returns-3 c = settle-none _ _ _ _ (c .before .put .given .1)
@@ -35,11 +19,11 @@ pub settled-spec : {M : Type 1} → statement M
 settled-spec =
     tie.close
     (tie.spec
-    enum-known-put
-    enum-known-put-2
-    because-requires
+    (λ c. search needs)
+    (λ c. search needs)
+    (λ c κs. search needs)
     returns
-    because-requires-2
+    (λ c κs. search needs)
     returns-2
     returns-3
     returns-4)

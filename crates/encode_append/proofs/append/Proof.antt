@@ -17,15 +17,6 @@ joins-here : (c : tie.After-known-told2)
     (c .before .new-count .given .0 .0) (c .before .new-count .given .0 .1 .0) (c .before .new-count .given .0 .1 .1 .0) (c .before .new-count .given .0 .1 .1 .1 .0)
 joins-here c = subst (Plans _ (start c .args .buf .now) _ _ _) (c .before .new-count .given .1) (c .before .before .before .planned .ensures)
 
-planned-requires : tie.Need-planned-requires
-planned-requires c κs = search needs
-
-enum-known-y : tie.Need-enum-known-y
-enum-known-y c = search needs
-
-enum-known-new-count : tie.Need-enum-known-new-count
-enum-known-new-count c = search needs
-
 sub-moved-end : tie.Need-sub-moved-end
 sub-moved-end c = joins-here c .heads .head
 
@@ -44,23 +35,14 @@ part-write-items-start c = omega (arith, joins-here (c .before .before .before .
 part-write-items-end : tie.Need-part-write-items-end
 part-write-items-end c = omega (arith, joins-here (c .before .before .before .before) .heads .room, c .before .before .replace-head .kept .0)
 
-write-items-requires : tie.Need-write-items-requires
-write-items-requires c κs = search needs
-
 add-t16 : tie.Need-add-t16
 add-t16 c =
     let d : tie.After-known-told2 = c .before .before .before .before .before .before .before .before in
     omega (arith, joins-here d .fits, start d .good .1 .0 .1)
 
-same-length : tie.Need-same-length
-same-length c = search needs
-
 returns : tie.Need-returns
 returns c =
     refused-leaves _ _ _ (subst (Plans _ (c .before .before .before .before .before .before .before .before .args .buf .now) _ _ _) (c .before .y .given .1) (c .before .before .before .planned .ensures))
-
-same-length-2 : tie.Need-same-length-2
-same-length-2 c = search needs
 
 returns-2 : tie.Need-returns-2
 returns-2 c =
@@ -72,18 +54,18 @@ pub append-spec : {M : Type 1} → statement M
 append-spec =
     tie.close
     (tie.spec
-    planned-requires
-    enum-known-y
-    enum-known-new-count
+    (λ c κs. search needs)
+    (λ c. search needs)
+    (λ c. search needs)
     sub-moved-end
     add-moved-end
     replace-head-requires
     sub-write-items
     part-write-items-start
     part-write-items-end
-    write-items-requires
+    (λ c κs. search needs)
     add-t16
-    same-length
+    (λ c. search needs)
     returns
-    same-length-2
+    (λ c. search needs)
     returns-2)

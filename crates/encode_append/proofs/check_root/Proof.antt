@@ -13,15 +13,6 @@ use Rattle.encode_append.proofs.check_root.Tie as tie
 fine-here : (c : tie.After-enum-told) → checkTable (c .before .before .before .before .args .table .now) ≡ fine
 fine-here c = sym (c .before .before .check .ensures) ∙ c .enum-told .given .1
 
-check-requires : tie.Need-check-requires
-check-requires c κs = search needs
-
-enum-known-y : tie.Need-enum-known-y
-enum-known-y c = search needs
-
-enum-told : tie.Need-enum-told
-enum-told c = search needs
-
 shared-slice-read-node : tie.Need-shared-slice-read-node
 shared-slice-read-node c = omega (arith, check-good _ (fine-here (c .before)) .exact)
 
@@ -30,15 +21,6 @@ cast-node c = omega (arith, c .shared-slice-known2 .given 5)
 
 sub-node : tie.Need-sub-node
 sub-node c = check-good _ (fine-here (c .before)) .some
-
-node-at-requires : tie.Need-node-at-requires
-node-at-requires c κs = search needs
-
-enum-told-2 : tie.Need-enum-told-2
-enum-told-2 c = search needs
-
-because-requires : tie.Need-because-requires
-because-requires c κs = search needs
 
 returns : tie.Need-returns
 returns c = root-refused _ _ (sym (c .before .before .before .check .ensures) ∙ c .before .y .given .1)
@@ -53,15 +35,15 @@ pub check-root-spec : {M : Type 1} → statement M
 check-root-spec =
     tie.close
     (tie.spec
-    check-requires
-    enum-known-y
-    enum-told
+    (λ c κs. search needs)
+    (λ c. search needs)
+    (λ c. search needs)
     shared-slice-read-node
     cast-node
     sub-node
-    node-at-requires
-    enum-told-2
-    because-requires
+    (λ c κs. search needs)
+    (λ c. search needs)
+    (λ c κs. search needs)
     returns
     returns-2
     returns-3)

@@ -6,24 +6,12 @@ use Rattle.encode_append.specs.Joins.{lengthsOf}
 use Rattle.encode_append.proofs.extract_length_data.Statement.{statement}
 use Rattle.encode_append.proofs.extract_length_data.Tie as tie
 
-counted-requires : tie.Need-counted-requires
-counted-requires c κs = search needs
-
 returns : tie.Need-returns
 returns c = c .counted .ensures ∙ ap (lengthsOf (c .before .before .before .args .k)) (sym (count-none (c .before .before .before .args .s .now) (c .before .if1 .taken)))
-
-read-requires : tie.Need-read-requires
-read-requires c κs = search needs
-
-enum-known-low : tie.Need-enum-known-low
-enum-known-low c = search needs
 
 counted-requires-2 : tie.Need-counted-requires-2
 counted-requires-2 c κs =
     count-low (c .before .before .before .before .before .before .args .s .now) (c .before .before .before .before .if1 .left) _ (c .before .before .before .read .ensures) _ _ _ (c .before .low .given .1)
-
-because-requires : tie.Need-because-requires
-because-requires c κs = search needs
 
 returns-2 : tie.Need-returns-2
 returns-2 c =
@@ -40,11 +28,11 @@ pub extract-length-data-spec : {M : Type 1} → statement M
 extract-length-data-spec =
     tie.close
     (tie.spec
-    counted-requires
+    (λ c κs. search needs)
     returns
-    read-requires
-    enum-known-low
+    (λ c κs. search needs)
+    (λ c. search needs)
     counted-requires-2
-    because-requires
+    (λ c κs. search needs)
     returns-2
     returns-3)

@@ -36,47 +36,17 @@ heads-here : (c : tie.After-known-told3)
     (c .before .new-count .given .0 .0) (c .before .new-count .given .0 .1 .0) (c .before .new-count .given .0 .1 .1 .0)
 heads-here c = headed _ _ _ _ _ (sym (c .before .before .before .extract-length-data .ensures) ∙ c .before .new-count .given .1)
 
-check-root-requires : tie.Need-check-root-requires
-check-root-requires c κs = search needs
-
-enum-known-y : tie.Need-enum-known-y
-enum-known-y c = search needs
-
-enum-told : tie.Need-enum-told
-enum-told c = search needs
-
-because-requires : tie.Need-because-requires
-because-requires c κs = search needs
-
 returns : tie.Need-returns
 returns c = beyond _ _ _ _ _ (root-here (c .before .before)) (c .before .if1 .taken) ∙ ap not (sym (c .because .ensures))
 
 slice-aggregate-extract-length-data : tie.Need-slice-aggregate-extract-length-data
 slice-aggregate-extract-length-data c = sym (length-take-le _ _ (c .before .if1 .left))
 
-extract-length-data-requires : tie.Need-extract-length-data-requires
-extract-length-data-requires c κs = search needs
-
-enum-known-y-2 : tie.Need-enum-known-y-2
-enum-known-y-2 c = search needs
-
-enum-known-new-count : tie.Need-enum-known-new-count
-enum-known-new-count c = search needs
-
 sub-moved-end : tie.Need-sub-moved-end
 sub-moved-end c = head-there _ _ _ _ _ _ (bytes-here (rooted c)) (used-here c) (heads-here c)
 
 add-moved-end : tie.Need-add-moved-end
 add-moved-end c = omega (arith, head-short _ _ _ _ _ _ (bytes-here (rooted c)) (used-here c) (heads-here c), used-here c, start (rooted c) .good .1 .0 .1)
-
-items-behind-requires : tie.Need-items-behind-requires
-items-behind-requires c κs = search needs
-
-enum-known-y-3 : tie.Need-enum-known-y-3
-enum-known-y-3 c = search needs
-
-enum-known-items : tie.Need-enum-known-items
-enum-known-items c = search needs
 
 returns-2 : tie.Need-returns-2
 returns-2 c = unrooted _ _ _ _ _ _ (sym (c .before .before .before .check-root .ensures) ∙ c .before .y .given .1)
@@ -102,20 +72,20 @@ pub planned-spec : {M : Type 1} → statement M
 planned-spec =
     tie.close
     (tie.spec
-    check-root-requires
-    enum-known-y
-    enum-told
-    because-requires
+    (λ c κs. search needs)
+    (λ c. search needs)
+    (λ c. search needs)
+    (λ c κs. search needs)
     returns
     slice-aggregate-extract-length-data
-    extract-length-data-requires
-    enum-known-y-2
-    enum-known-new-count
+    (λ c κs. search needs)
+    (λ c. search needs)
+    (λ c. search needs)
     sub-moved-end
     add-moved-end
-    items-behind-requires
-    enum-known-y-3
-    enum-known-items
+    (λ c κs. search needs)
+    (λ c. search needs)
+    (λ c. search needs)
     returns-2
     returns-3
     returns-4

@@ -11,12 +11,6 @@ sub-shift-up c = c .before .before .pre .head
 shift-up-requires : tie.Need-shift-up-requires
 shift-up-requires c κs = (c .before .before .pre .grows, c .before .before .pre .room)
 
-put-requires : tie.Need-put-requires
-put-requires c κs = search needs
-
-same-length : tie.Need-same-length
-same-length c = search needs
-
 returns : tie.Need-returns
 returns c =
     let s = c .before .before .before .before .before .before .before .before .before in
@@ -25,4 +19,4 @@ returns c =
 
 pub replace-head-spec : {M : Type 1} → statement M
 replace-head-spec =
-    tie.close (tie.spec sub-shift-up shift-up-requires put-requires same-length returns)
+    tie.close (tie.spec sub-shift-up shift-up-requires (λ c κs. search needs) (λ c. search needs) returns)

@@ -19,12 +19,6 @@ Inv-loop t n v₀ i₀ v i = (i ≤ i₀) × (i₀ ≡ min (min n 8) (length t))
 abbrev μ-loop : tie.MeasureT-loop
 μ-loop t n v₀ i₀ v i = i
 
-smaller-requires : tie.Need-smaller-requires Inv-loop μ-loop
-smaller-requires c κs = search needs
-
-smaller-requires-2 : tie.Need-smaller-requires-2 Inv-loop μ-loop
-smaller-requires-2 c κs = search needs
-
 loop-holds : tie.Need-loop-holds Inv-loop μ-loop
 loop-holds c = (omega arith, omega arith, value-none (c .smaller2 .result) _)
 
@@ -62,8 +56,8 @@ word-spec =
     (tie.spec
     Inv-loop
     μ-loop
-    smaller-requires
-    smaller-requires-2
+    (λ c κs. search needs)
+    (λ c κs. search needs)
     loop-holds
     sub-i
     shared-slice-read-b

@@ -3,8 +3,6 @@ use Prim.Native.Nat.{_-_, _≤_}
 use native.Mathlib.Omega.{arith}
 use Rattle.readings.proofs.stacked.Statement.{statement}
 use Rattle.readings.proofs.stacked.Tie as tie
-use Rattle.readings.proofs.stacked.Reads as reads
-use Rattle.readings.proofs.stacked.Lts as lts
 
 abbrev Inv-loop : tie.InvT-loop
 Inv-loop first kind table₀ node₀ table node = (1 ≤ node) × (node ≤ 64)

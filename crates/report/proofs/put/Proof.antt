@@ -23,9 +23,6 @@ add-store c = omega (arith, c .before .before .before .before .before .pre)
 shared-slice-read-store : tie.Need-shared-slice-read-store Inv-loop μ-loop
 shared-slice-read-store c = omega arith
 
-store-requires : tie.Need-store-requires Inv-loop μ-loop
-store-requires c κs = search needs
-
 add-i : tie.Need-add-i Inv-loop μ-loop
 add-i c = omega arith
 
@@ -53,7 +50,7 @@ put-spec =
     loop-holds
     add-store
     shared-slice-read-store
-    store-requires
+    (λ c κs. search needs)
     add-i
     loop-less
     loop-again

@@ -5,15 +5,9 @@ use Rattle.report.proofs.Writing.{put-front}
 use Rattle.report.proofs.report_unreadable.Statement.{statement}
 use Rattle.report.proofs.report_unreadable.Tie as tie
 
-put-refused-requires : tie.Need-put-refused-requires
-put-refused-requires c κs = search needs
-
-same-length : tie.Need-same-length
-same-length c = search needs
-
 returns : tie.Need-returns
 unfolding unreadable
 returns c = put-front (c .before .before .put-refused .ensures)
 
 pub report-unreadable-spec : {M : Type 1} → statement M
-report-unreadable-spec = tie.close (tie.spec put-refused-requires same-length returns)
+report-unreadable-spec = tie.close (tie.spec (λ c κs. search needs) (λ c. search needs) returns)

@@ -1,10 +1,10 @@
 -- Laws of the forms of a compact number, one for each way to an answer.
-use mathlib.Core.Bool.{true, false}
+use mathlib.Core.Bool.{true}
 use mathlib.Core.List.{List, [], _∷_}
 use mathlib.Core.Path.{_≡_, refl, ap}
 use Prim.Native.Nat.{ℕ, _+_, _-_, _*_, _/_, _%_, _^_, max, _≤_, _<_}
 use native.Mathlib.Omega.{arith}
-use borrow.Author.Tests.{ltb-true, ltb-false, lt-ltb, le-ltb, le-leb, lt-leb}
+use borrow.Author.Tests.{ltb-true, lt-ltb, le-ltb, le-leb, lt-leb}
 use lib.ListN.{length, take}
 use Rattle.rules.specs.Bytes.{leValue}
 use Rattle.rules.specs.Compact.{fits, value, short, range, settled, form0, form1, form2, form3, compactFrom}
@@ -15,10 +15,6 @@ pub fits-lt : (w v : ℕ) → fits w v ≡ true → v < 2 ^ (8 * w)
 unfolding fits
 fits-lt w v e = ltb-true v (2 ^ (8 * w)) e
 
-pub fits-ge : (w v : ℕ) → fits w v ≡ false → 2 ^ (8 * w) ≤ v
-unfolding fits
-fits-ge w v e = ltb-false v (2 ^ (8 * w)) e
-
 pub lt-fits : (w v : ℕ) → v < 2 ^ (8 * w) → fits w v ≡ true
 unfolding fits
 lt-fits w v e = lt-ltb v (2 ^ (8 * w)) e
@@ -28,10 +24,6 @@ lt-fits w v e = lt-ltb v (2 ^ (8 * w)) e
 pub settled-yes : (w least v n : ℕ) → least ≤ v → fits w v ≡ true → settled w least v n ≡ value v n
 unfolding settled
 settled-yes w least v n h e = simp (le-leb _ _ h, e)
-
-pub settled-wide : (w least v n : ℕ) → least ≤ v → fits w v ≡ false → settled w least v n ≡ range
-unfolding settled
-settled-wide w least v n h e = simp (le-leb _ _ h, e)
 
 pub settled-low : (w least v n : ℕ) → v < least → settled w least v n ≡ range
 unfolding settled

@@ -120,6 +120,9 @@ past false a b v n never e = (refl, e)
 no-short : (v n : ℕ) → short ≡ value v n → ⊥
 no-short v n e = let z : _≡_ {A = ℕ} 0 1 = cc in omega arith
 
+enough-says : (k : ℕ) (s : List ℕ) (a : Answer) (v n : ℕ) → enough k s a ≡ value v n → (ltb (length s) k ≡ false) × (a ≡ value v n)
+enough-says k s a v n e = past (ltb (length s) k) _ a v n (no-short v n) e
+
 no-prefix : (v n : ℕ) → prefix ≡ value v n → ⊥
 no-prefix v n e = let z : _≡_ {A = ℕ} 0 1 = cc in omega arith
 
@@ -147,7 +150,7 @@ says-0 w b v n s h f e =
 says-1 : (w b v n : ℕ) (s : List ℕ) → Under 256 (b ∷ s) → b % 4 ≡ 1 → form1 w b s ≡ value v n → Opens w v n (b ∷ s)
 unfolding form1 leValue
 says-1 w b v n s h f e =
-    let there = past (ltb (length s) 1) short _ v n (no-short v n) e in
+    let there = enough-says 1 s _ v n e in
     let l : 1 ≤ length s = ltb-false (length s) 1 (there .0) in
     let r = settled-says w 64 ((b + 256 * leValue (take 1 s)) / 4) 2 v n (there .1) in
     let v′ : (b + 256 * leValue (take 1 s)) / 4 ≡ v = r .2 in
@@ -161,7 +164,7 @@ says-2 : (w b v n : ℕ) (s : List ℕ) → Under 256 (b ∷ s) → b % 4 ≡ 2 
 unfolding form2 leValue
 says-2 w b v n s h f e =
     let early = past (ltb w 2) prefix _ v n (no-prefix v n) e in
-    let there = past (ltb (length s) 3) short _ v n (no-short v n) (early .1) in
+    let there = enough-says 3 s _ v n (early .1) in
     let l : 3 ≤ length s = ltb-false (length s) 3 (there .0) in
     let r = settled-says w (2 ^ 14) ((b + 256 * leValue (take 3 s)) / 4) 4 v n (there .1) in
     let v′ : (b + 256 * leValue (take 3 s)) / 4 ≡ v = r .2 in
@@ -176,7 +179,7 @@ unfolding form3 long
 says-3 w b v n s h f e =
     let k = b / 4 + 4 in
     let early = past (ltb w k) (pick (eqb w 4) range prefix) _ v n (no-early (eqb w 4) v n) e in
-    let there = past (ltb (length s) k) short _ v n (no-short v n) (early .1) in
+    let there = enough-says k s _ v n (early .1) in
     let l : k ≤ length s = ltb-false (length s) k (there .0) in
     let r = settled-says w (max (2 ^ 30) (2 ^ (8 * (k - 1)))) (leValue (take k s)) (k + 1) v n (there .1) in
     let v′ : leValue (take k s) ≡ v = r .2 in
@@ -231,7 +234,7 @@ compact-one v v′ s s′ h h′ e =
 
 took-enough : (k w least x m v n : ℕ) (s : List ℕ) → m ≡ suc k → enough k s (settled w least x m) ≡ value v n → (1 ≤ n) × (n ≤ suc (length s)) × (fits w v ≡ true)
 took-enough k w least x m v n s q e =
-    let there = past (ltb (length s) k) short (settled w least x m) v n (no-short v n) e in
+    let there = enough-says k s (settled w least x m) v n e in
     let r = settled-says w least x m v n (there .1) in
     (omega (arith, r .3), omega (arith, ltb-false (length s) k (there .0), r .3), r .1)
 

@@ -11,7 +11,6 @@ use Rattle.rules.specs.Refusals.{Refusal}
 use Rattle.rules.specs.Basics.{total, highest}
 use Rattle.rules.specs.Types.{Ty, leaf, nothing, result, pair, array, vector, bits, Val}
 use Rattle.rules.specs.Parser.{Res, got, bad}
-use Rattle.rules.specs.Form.Laws.{reads}
 use Rattle.rules.specs.Wire.{read}
 use Rattle.rules.specs.Cells.{cells}
 use Rattle.rules.specs.Totals.{nesting, charge, vectors}

@@ -6,7 +6,6 @@ use native.Mathlib.Nat.{add-zero}
 use native.Mathlib.Omega.{arith}
 use lib.ListN.{length, length-append}
 use Rattle.rules.specs.Types.{Ty}
-use Rattle.rules.specs.Bits.{counted}
 use Rattle.rules.specs.Parser.{got}
 use Rattle.rules.specs.Trace.{Event, plain, enter, Trace, ended, refused, item, trace}
 use Rattle.rules.specs.Trace.Sums.{ending}

@@ -15,7 +15,7 @@ use Rattle.rules.specs.Basics.{pick, choose}
 use Rattle.rules.specs.Types.{w4, Leaf, bool, compact, Ty, leaf, nothing, result, pair, array, vector, bits}
 use Rattle.rules.specs.Parser.{Res, got, bad}
 use Rattle.rules.specs.Wire.{leafFrom}
-use Rattle.rules.specs.Cells.{leafCells, cells}
+use Rattle.rules.specs.Cells.{leafCells}
 use Rattle.rules.specs.Totals.{foot}
 use Rattle.rules.specs.Trace.{Head, Event, plain, enter, Trace, ended, refused, item, Tracer, longer, _▷_, follow, repeat, on, step, vectorHead, bitsHead, laneTrace, trace}
 use Rattle.rules.specs.Scan.{Limits, Totals, Scan, done, stopped, barred, unless, finish, run, start, cellsOf, kept, finished, scan, scanned}
@@ -239,7 +239,7 @@ pass-vector t lim lv at s st = unfold passAt in pass-headed lim st at (leafFrom 
 
 -- the bytes of c bits of a bit vector that starts at `at`, from offset e on
 unfoldable pub lanesAt : Limits → ℕ → ℕ → List ℕ → ℕ → Totals → Pass
-lanesAt lim c at s e u = passFrom lim u e (laneTrace c at (drop (e - at) s))
+lanesAt lim c at s e u = passFrom lim u e (laneTrace c at e (drop (e - at) s))
 
 -- a bit vector, after its count
 unfoldable pub bitsAt : Limits → ℕ → ℕ → List ℕ → Totals → Res ℕ → Pass
@@ -250,15 +250,15 @@ pub pass-bits : (lim : Limits) (lv at : ℕ) (s : List ℕ) (st : Totals) → pa
 unfolding passAt trace lanesAt
 pass-bits lim lv at s st = go (leafFrom (compact w4) at s)
   where
-    inner : (c n : ℕ) (b : Bool) → passFrom lim st at (pick b (step (bitsHead lv at c) n ▷ (λ m. laneTrace c at (drop m s))) (refused (bitCountAt at)))
+    inner : (c n : ℕ) (b : Bool) → passFrom lim st at (pick b (step (bitsHead lv at c) n ▷ (λ m. laneTrace c at (at + m) (drop m s))) (refused (bitCountAt at)))
         ≡ pick b (passing lim st (bitsHead lv at c) (lanesAt lim c at s (at + n))) (passNone (stopped (bitCountAt at)))
     inner c n true =
         let e : n ≡ at + n - at = omega arith in
-        pass-step lim st at (bitsHead lv at c) n (λ m. laneTrace c at (drop m s))
-        ∙ ap (λ m. passing lim st (bitsHead lv at c) (λ u. passFrom lim u (at + n) (laneTrace c at (drop m s)))) e
+        pass-step lim st at (bitsHead lv at c) n (λ m. laneTrace c at (at + m) (drop m s))
+        ∙ ap (λ m. passing lim st (bitsHead lv at c) (λ u. passFrom lim u (at + n) (laneTrace c at (at + n) (drop m s)))) e
     inner c n false = unfold passFrom run finished further in refl
 
-    go : (r : Res ℕ) → passFrom lim st at (on r (λ c n. pick (leb c maxBits) (step (bitsHead lv at c) n ▷ (λ m. laneTrace c at (drop m s))) (refused (bitCountAt at)))) ≡ bitsAt lim lv at s st r
+    go : (r : Res ℕ) → passFrom lim st at (on r (λ c n. pick (leb c maxBits) (step (bitsHead lv at c) n ▷ (λ m. laneTrace c at (at + m) (drop m s))) (refused (bitCountAt at)))) ≡ bitsAt lim lv at s st r
     go (got c n) = unfold on bitsAt in inner c n (leb c maxBits)
     go (bad y) = unfold on bitsAt passFrom run finished further in refl
 

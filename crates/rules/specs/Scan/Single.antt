@@ -1,27 +1,24 @@
 -- One item under the limits, by the tests that decide it: for the code that passes scalars, heads and units.
-use mathlib.Core.Bool.{Bool, true, false}
+use mathlib.Core.Bool.{Bool}
 use mathlib.Core.List.{List, [], _∷_, append-nil}
 use mathlib.Core.Option.{none, some, Option}
 use mathlib.Core.Path.{_≡_, refl, ap, _∙_, subst}
 use Prim.Native.Nat.{ℕ, _+_, _-_, max, _≤_, _<_}
 use native.Mathlib.Omega.{arith}
 use borrow.Author.Tests.{lt-ltb, le-ltb, le-leb, lt-leb}
-use lib.Dec.{ltb}
-use lib.ListN.{length, drop, take}
-use Rattle.rules.specs.Refusals.{Refusal, shortAt, bitCountAt, depthAt, memoryAt, roomAt, maxBits}
+use lib.ListN.{length, drop}
+use Rattle.rules.specs.Refusals.{Refusal, bitCountAt, depthAt, memoryAt, roomAt, maxBits}
 use Rattle.rules.specs.Basics.{pick}
 use Rattle.rules.specs.Types.{w4, compact, Ty, vector, bits}
-use Rattle.rules.specs.Bits.{words8, words64, pack, lanes}
+use Rattle.rules.specs.Bits.{words64, pack}
 use Rattle.rules.specs.Bits.Laws.{length-pack}
-use Rattle.rules.specs.Parser.{got, bad}
+use Rattle.rules.specs.Parser.{Res, got, bad}
 use Rattle.rules.specs.Wire.{leafFrom, lanesFrom}
-use Rattle.rules.specs.Cells.{cells}
-use Rattle.rules.specs.Totals.{foot, charge}
+use Rattle.rules.specs.Totals.{foot}
 use Rattle.rules.specs.Trace.{Head, plain, enter, ended, item, on, step, vectorHead, bitsHead, laneTrace}
 use Rattle.rules.specs.Scan.{Limits, Totals, Scan, done, stopped, sat, barred, finish, run, finished}
 use Rattle.rules.specs.Scan.Pass.{Pass, further, passFrom, passAt, passNone, behind, after, items, unlessBarred, passing, plainPass, entryPass, headed, same-pass, pass-item, pass-vector, lanesAt, bitsAt, pass-bits}
 use Rattle.rules.specs.Scan.Barred.{Lets, barred-none, lets-none}
-use Rattle.rules.specs.Scan.Accept.{answer}
 use Rattle.rules.specs.Scan.Units.{plusCells}
 
 plain-bars : (lim : Limits) (st : Totals) (at : ℕ) (cs : List ℕ) → lim .cells < st .cells + length cs → barred lim st (plain at cs) ≡ some (roomAt at)
@@ -115,31 +112,27 @@ pub entry-done : (lim : Limits) (st : Totals) (h : Head) (e : ℕ) (u : Totals) 
 unfolding EntryTold
 entry-done lim st h e u e′ q = subst (EntryTold lim st h e) q (entry-told lim st h e)
 
--- the bytes of n bits behind a head that asked for their room: their cells, or they are short
+-- the bytes of n bits behind a head that asked for their room: their cells, or why they are refused
+unfoldable pub lanesDone : ℕ → ℕ → Totals → Res (List Bool) → Pass
+lanesDone n e u (got v k) = record { answer = done (plusCells u (words64 n)) (e + k); cells = pack 64 (words64 n) v }
+lanesDone n e u (bad y) = passNone (stopped y)
+
 unfoldable pub lanesPass : ℕ → ℕ → ℕ → List ℕ → Totals → Pass
-lanesPass n at e s u =
-    pick (ltb (length s) (words8 n)) (passNone (stopped (shortAt at)))
-    (record { answer = done (plusCells u (words64 n)) (e + words8 n); cells = pack 64 (words64 n) (lanes 8 n (take (words8 n) s)) })
+lanesPass n at e s u = lanesDone n e u (lanesFrom n at e s)
 
 pub lanes-pass : (lim : Limits) (n at e : ℕ) (s : List ℕ) (u : Totals) → u .cells + words64 n ≤ lim .cells → lanesAt lim n at s e u ≡ lanesPass n at e (drop (e - at) s) u
-unfolding lanesAt laneTrace lanesFrom lanesPass on
-lanes-pass lim n at e s u h = go (ltb (length l) (words8 n))
+unfolding lanesAt laneTrace lanesPass lanesDone on
+lanes-pass lim n at e s u h = go (lanesFrom n at e (drop (e - at) s))
   where
-    l : List ℕ
-    l = drop (e - at) s
-
-    cs : List ℕ
-    cs = pack 64 (words64 n) (lanes 8 n (take (words8 n) l))
-
-    go : (b : Bool) → passFrom lim u e (on (pick b (bad (shortAt at)) (got (lanes 8 n (take (words8 n) l)) (words8 n))) (λ v k. step (plain at (pack 64 (words64 n) v)) k))
-        ≡ pick b (passNone (stopped (shortAt at))) (record { answer = done (plusCells u (words64 n)) (e + words8 n); cells = cs })
-    go true = unfold passFrom run finished further in refl
-    go false =
-        let k : length cs ≡ words64 n = length-pack 64 (words64 n) (lanes 8 n (take (words8 n) l)) in
-        let p : passFrom lim u e (item (plain at cs) (ended (words8 n))) ≡ plainPass lim u at cs (e + words8 n) =
-        pass-item lim u e (plain at cs) (ended (words8 n)) ∙ (unfold plainPass passFrom run finished further in refl) in
-        p ∙ plain-passes lim u at cs (e + words8 n) (omega arith)
-        ∙ ap (λ m. record { answer = done (plusCells u m) (e + words8 n); cells = cs }) k
+    go : (r : Res (List Bool)) → passFrom lim u e (on r (λ v k. step (plain at (pack 64 (words64 n) v)) k)) ≡ lanesDone n e u r
+    go (bad y) = unfold passFrom run finished further in refl
+    go (got v j) =
+        let cs : List ℕ = pack 64 (words64 n) v in
+        let k : length cs ≡ words64 n = length-pack 64 (words64 n) v in
+        let p : passFrom lim u e (item (plain at cs) (ended j)) ≡ plainPass lim u at cs (e + j) =
+        pass-item lim u e (plain at cs) (ended j) ∙ (unfold plainPass passFrom run finished further in refl) in
+        p ∙ plain-passes lim u at cs (e + j) (omega arith)
+        ∙ ap (λ m. record { answer = done (plusCells u m) (e + j); cells = cs }) k
 
 -- ---- a bit vector, by its count
 

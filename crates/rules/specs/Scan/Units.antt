@@ -14,13 +14,12 @@ use Rattle.rules.specs.Refusals.{Refusal, roomAt}
 use Rattle.rules.specs.Basics.{pick}
 use Rattle.rules.specs.Types.{Width, w1, w2, w4, w8, w16, Leaf, unit, bool, optBool, fixed, compact, float, size, Ty, leaf, nothing, result, pair, array, vector, bits}
 use Rattle.rules.specs.Wire.{leafFrom}
-use Rattle.rules.specs.Cells.{leafCells, cells}
-use Rattle.rules.specs.Totals.{leafFoot, foot, unitCells, charge}
+use Rattle.rules.specs.Cells.{leafCells}
+use Rattle.rules.specs.Totals.{leafFoot, foot, unitCells}
 use Rattle.rules.specs.Trace.{plain}
 use Rattle.rules.specs.Scan.{Limits, Totals, done, stopped, barred, finish}
 use Rattle.rules.specs.Scan.Pass.{Pass, Passer, passAt, passNone, behind, thenFrom, andThen, after, items, unlessBarred, passing, headed, leafPass, same-pass, pass-leaf, pass-nothing, pass-pair, pass-array}
 use Rattle.rules.specs.Scan.Barred.{lets-none}
-use Rattle.rules.specs.Scan.Accept.{answer}
 
 -- m more cells
 abbrev pub plusCells : Totals → ℕ → Totals

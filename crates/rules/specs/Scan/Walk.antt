@@ -14,11 +14,10 @@ use Rattle.rules.specs.Basics.{pick, choose}
 use Rattle.rules.specs.Types.{Leaf, bool, Ty, leaf, result}
 use Rattle.rules.specs.Parser.{Res, got, bad}
 use Rattle.rules.specs.Wire.{byteFrom, leafFrom}
-use Rattle.rules.specs.Cells.{leafCells, cells}
+use Rattle.rules.specs.Cells.{leafCells}
 use Rattle.rules.specs.Trace.{Event, plain}
 use Rattle.rules.specs.Scan.{Limits, Totals, Scan, done, stopped, barred, finish, cellsOf}
 use Rattle.rules.specs.Scan.Pass.{Pass, Passer, passAt, passNone, thenFrom, andThen, after, items, unlessBarred, passing, headed, leafPass, same-pass, pass-leaf, pass-result}
-use Rattle.rules.specs.Scan.Accept.{answer}
 use Rattle.rules.specs.Scan.Held.{Held, pass-held}
 use Rattle.rules.specs.Scan.Units.{unitsAt, units-many}
 

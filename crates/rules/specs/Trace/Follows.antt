@@ -55,9 +55,9 @@ all-along t lv h (suc n) at s z =
     (λ vs. sums-assoc z (sumsOf t lv v) (sumsAll t lv vs) ∙ ap (λ x. z ⊕ x) (same-sums refl refl refl (omega arith) refl)))
 
 -- a bit vector's bytes
-lane-along : (c at : ℕ) (l : List ℕ) (z : Sums) → Traces z (laneTrace c at l) (lanesFrom c at l) (λ v. z ⊕ of (plain at (pack 64 (words64 c) v)))
+lane-along : (c at from : ℕ) (l : List ℕ) (z : Sums) → Traces z (laneTrace c at from l) (lanesFrom c at from l) (λ v. z ⊕ of (plain at (pack 64 (words64 c) v)))
 unfolding laneTrace
-lane-along c at l z = traces-leaf z (lanesFrom c at l) (λ v. plain at (pack 64 (words64 c) v))
+lane-along c at from l z = traces-leaf z (lanesFrom c at from l) (λ v. plain at (pack 64 (words64 c) v))
 
 bits-sums : (lv at c : ℕ) (v : List Bool) → length v ≡ c
     → of (bitsHead lv at c) ⊕ of (plain at (pack 64 (words64 c) v)) ≡ sumsOf bits lv v
@@ -68,24 +68,24 @@ bits-sums lv at c v e =
 
 bits-along : (lv at : ℕ) (s : List ℕ) (z : Sums) (r : Res ℕ)
     → Traces z
-    (on r (λ c n. pick (leb c maxBits) (step (bitsHead lv at c) n ▷ (λ m. laneTrace c at (drop m s))) (refused (bitCountAt at))))
-    (next r (λ c n. bitsBody c at (drop n s))) (λ v. z ⊕ sumsOf bits lv v)
+    (on r (λ c n. pick (leb c maxBits) (step (bitsHead lv at c) n ▷ (λ m. laneTrace c at (at + m) (drop m s))) (refused (bitCountAt at))))
+    (next r (λ c n. bitsBody c at (at + n) (drop n s))) (λ v. z ⊕ sumsOf bits lv v)
 unfolding on next bitsBody
 bits-along lv at s z (bad y) = unfold Traces ending in refl
 bits-along lv at s z (got c n) = go (leb c maxBits)
   where
     body : ℕ → Res (List Bool)
-    body m = lanesFrom c at (drop m s)
+    body m = lanesFrom c at (at + m) (drop m s)
 
     e : Event
     e = bitsHead lv at c
 
-    go : (b : Bool) → Traces z (pick b (step e n ▷ (λ m. laneTrace c at (drop m s))) (refused (bitCountAt at))) (more n (pick b (body n) (bad (bitCountAt at)))) (λ v. z ⊕ sumsOf bits lv v)
+    go : (b : Bool) → Traces z (pick b (step e n ▷ (λ m. laneTrace c at (at + m) (drop m s))) (refused (bitCountAt at))) (more n (pick b (body n) (bad (bitCountAt at)))) (λ v. z ⊕ sumsOf bits lv v)
     go false = unfold Traces ending more in refl
-    go true = chain z (step e n) (got c n) (λ m. laneTrace c at (drop m s)) (λ x m. body m) (λ x. z ⊕ of e) (λ v. z ⊕ sumsOf bits lv v) (traces-step z e n c)
-        (λ x m q. traces-same (z ⊕ of e) (laneTrace c at (drop m s)) (body m) (λ v. z ⊕ of e ⊕ of (plain at (pack 64 (words64 c) v))) (λ v. z ⊕ sumsOf bits lv v)
-        (lane-along c at (drop m s) (z ⊕ of e))
-        (λ v k f. sums-assoc z (of e) (of (plain at (pack 64 (words64 c) v))) ∙ ap (λ y. z ⊕ y) (bits-sums lv at c v (lanes-length c at (drop m s) v k f))))
+    go true = chain z (step e n) (got c n) (λ m. laneTrace c at (at + m) (drop m s)) (λ x m. body m) (λ x. z ⊕ of e) (λ v. z ⊕ sumsOf bits lv v) (traces-step z e n c)
+        (λ x m q. traces-same (z ⊕ of e) (laneTrace c at (at + m) (drop m s)) (body m) (λ v. z ⊕ of e ⊕ of (plain at (pack 64 (words64 c) v))) (λ v. z ⊕ sumsOf bits lv v)
+        (lane-along c at (at + m) (drop m s) (z ⊕ of e))
+        (λ v k f. sums-assoc z (of e) (of (plain at (pack 64 (words64 c) v))) ∙ ap (λ y. z ⊕ y) (bits-sums lv at c v (lanes-length c at (at + m) (drop m s) v k f))))
 
 leaf-along : (k : Leaf) (lv : ℕ) → Along (leaf k) lv
 unfolding trace parse reach charge vectors write

@@ -4,19 +4,20 @@ use mathlib.Core.List.{List, _++_, [], _∷_}
 use mathlib.Core.Logic.{_⊎_, inl, inr}
 use mathlib.Core.Path.{_≡_, refl, ap, sym, _∙_, subst}
 use Prim.Native.Nat.{ℕ, zero, suc, _+_, _≤_}
+use native.Mathlib.Decide.{decLe}
 use native.Mathlib.Omega.{arith}
-use borrow.Author.Tests.{ltb-false, le-ltb}
 use lib.Dec.{ltb, leb}
-use lib.ListN.{length, drop, take, length-append}
+use lib.ListN.{length, drop, length-append}
 use lib.Seq.{take-append-le, drop-append-le}
-use Rattle.rules.specs.Refusals.{shortAt, tagAt, bitCountAt, maxBits}
+use Rattle.rules.specs.Refusals.{Refusal, tagAt, bitCountAt, maxBits}
 use Rattle.rules.specs.Basics.{pick, choose}
 use Rattle.rules.specs.Types.{w4, Leaf, unit, bool, optBool, fixed, compact, float, size, Ty, leaf, nothing, result, pair, array, vector, bits, Val}
 use Rattle.rules.specs.Bytes.{leValue}
 use Rattle.rules.specs.Compact.{Answer, short}
-use Rattle.rules.specs.Bits.{words8, words64, pack, lanes}
+use Rattle.rules.specs.Bits.{words8, words64, pack}
 use Rattle.rules.specs.Parser.{Res, got, bad}
-use Rattle.rules.specs.Wire.{byteFrom, numberFrom, placed, leafFrom, lanesFrom, read}
+use Rattle.rules.specs.Wire.{byteFrom, whole, numberFrom, placed, leafFrom, lanesIn, lanesFrom, read}
+use Rattle.rules.specs.Wire.Laws.{whole-there, whole-short}
 use Rattle.rules.specs.Wire.Used.{leaf-used, read-used}
 use Rattle.rules.specs.Compact.Grow.{compact-grows}
 use Rattle.rules.specs.Trace.{Event, plain, Trace, ended, refused, item, Tracer, longer, _▷_, repeat, on, step, laneTrace, trace}
@@ -39,16 +40,14 @@ small-extends m at [] x = unfold Extends in inl refl
 small-extends m at (b ∷ s) x = same-extends (pick (ltb b m) (got b 1) (bad (tagAt at))) (pick (ltb b m) (got b 1) (bad (tagAt at))) refl
 
 -- n units are there, and they decide, or it is short
-there-extends : {A : Type 0} (n at : ℕ) (s x : List ℕ) (g : List ℕ → Res A)
-    → Extends (pick (ltb (length s) n) (bad (shortAt at)) (g (take n s))) (pick (ltb (length (s ++ x)) n) (bad (shortAt at)) (g (take n (s ++ x))))
-there-extends n at s x g = go (ltb (length s) n) refl
+whole-extends : {A : Type 0} (n : ℕ) (y : Refusal) → y .number ≡ 10 → (s x : List ℕ) (g : List ℕ → Res A) → Extends (whole n y s g) (whole n y (s ++ x) g)
+whole-extends n y q s x g = go (decLe n (length s))
   where
-    go : (b : Bool) → ltb (length s) n ≡ b → Extends (pick b (bad (shortAt at)) (g (take n s))) (pick (ltb (length (s ++ x)) n) (bad (shortAt at)) (g (take n (s ++ x))))
-    go true e = unfold Extends in inl refl
-    go false e =
-        let h : n ≤ length s = ltb-false (length s) n e in
-        same-extends (g (take n s)) _
-        (ap g (sym (take-append-le n s x h)) ∙ ap (λ b. pick b (bad (shortAt at)) (g (take n (s ++ x)))) (sym (le-ltb (length (s ++ x)) n (omega (arith, length-append s x)))))
+    go : Dec (n ≤ length s) → Extends (whole n y s g) (whole n y (s ++ x) g)
+    go (no h) = subst (λ r. Extends r (whole n y (s ++ x) g)) (sym (whole-short n y s g (omega arith))) (unfold Extends in inl q)
+    go (yes h) =
+        same-extends (whole n y s g) _
+        (whole-there n y s g h ∙ ap g (sym (take-append-le n s x h)) ∙ sym (whole-there n y (s ++ x) g (omega (arith, length-append s x))))
 
 placed-extends : (at : ℕ) (a b : Answer) → (a ≡ short) ⊎ (a ≡ b) → Extends (placed at a) (placed at b)
 placed-extends at a b (inl e) = subst (λ y. Extends (placed at y) (placed at b)) (sym e) (unfold Extends placed in inl refl)
@@ -59,9 +58,9 @@ unfolding leafFrom numberFrom
 leaf-extends unit at s x = unfold Extends in refl
 leaf-extends bool at s x = small-extends 2 at s x
 leaf-extends optBool at s x = small-extends 3 at s x
-leaf-extends (fixed w) at s x = there-extends (size w) at s x (λ l. got (leValue l) (size w))
+leaf-extends (fixed w) at s x = whole-extends (size w) _ refl s x (λ l. got (leValue l) (size w))
 leaf-extends (compact w) at s x = placed-extends at _ _ (compact-grows (size w) s x)
-leaf-extends (float w) at s x = there-extends (size w) at s x (λ l. got (leValue l) (size w))
+leaf-extends (float w) at s x = whole-extends (size w) _ refl s x (λ l. got (leValue l) (size w))
 
 -- the same items, or the first up to a refusal 10
 unfoldable pub Grown : Trace → Trace → Type 0
@@ -133,9 +132,9 @@ choose-grown : (b : ℕ) (p q : Tracer) → Growing p → Growing q → Growing 
 choose-grown zero p q h g = h
 choose-grown (suc b) p q h g = g
 
-lane-grown : (c at : ℕ) (s x : List ℕ) → Grown (laneTrace c at s) (laneTrace c at (s ++ x))
+lane-grown : (c at from : ℕ) (s x : List ℕ) → Grown (laneTrace c at from s) (laneTrace c at from (s ++ x))
 unfolding laneTrace lanesFrom
-lane-grown c at s x = grown-leaf _ _ _ _ (there-extends (words8 c) at s x (λ l. got (lanes 8 c l) (words8 c))) (λ v n e. grown-same (step (plain at (pack 64 (words64 c) v)) n))
+lane-grown c at from s x = grown-leaf _ _ _ _ (whole-extends (words8 c) _ refl s x (lanesIn c at)) (λ v n e. grown-same (step (plain at (pack 64 (words64 c) v)) n))
 
 pick-grown : (b : Bool) (a t t′ : Trace) → Grown t t′ → Grown (pick b t a) (pick b t′ a)
 pick-grown true a t t′ h = h
@@ -158,4 +157,4 @@ trace-grown (vector t) lv at s x =
 trace-grown bits lv at s x =
     grown-leaf _ _ _ _ (leaf-extends (compact w4) at s x)
     (λ c n e. pick-grown (leb c maxBits) (refused (bitCountAt at)) _ _
-    (grown-step _ n _ _ (rw (drop-append-le n s x (leaf-used (compact w4) at s c n e)) (lane-grown c at (drop n s) x))))
+    (grown-step _ n _ _ (rw (drop-append-le n s x (leaf-used (compact w4) at s c n e)) (lane-grown c at (at + n) (drop n s) x))))

@@ -10,7 +10,7 @@ use lib.Dec.{ltb, leb, lit≤}
 use lib.ListN.{length, take, replicate, length-append}
 use lib.Pow.{pow-mono}
 use lib.Seq.{take-at, length-take-le}
-use Rattle.rules.specs.Refusals.{shortAt, tagAt, bitCountAt, maxBits}
+use Rattle.rules.specs.Refusals.{Refusal, tagAt, bitCountAt, maxBits}
 use Rattle.rules.specs.Basics.{pick, Under}
 use Rattle.rules.specs.Types.{Width, w1, w2, w4, w8, w16, Leaf, unit, bool, optBool, fixed, compact, float, size, bound}
 use Rattle.rules.specs.Bytes.{leValue, leBytes}
@@ -20,10 +20,29 @@ use Rattle.rules.specs.Compact.Answers.{fits-lt, lt-fits}
 use Rattle.rules.specs.Compact.Law.{compact-reads, compact-opens, compact-took}
 use Rattle.rules.specs.Bits.{words8, pack, lanes, counted}
 use Rattle.rules.specs.Bits.Laws.{Like, length-pack, lanes-pack, length-lanes, pack-lanes, like-append, like-same}
-use Rattle.rules.specs.Parser.{got, bad}
+use Rattle.rules.specs.Parser.{Res, got, bad}
 use Rattle.rules.specs.Parser.Laws.{Writes, writes-bind, Backs, back-bind}
 use Rattle.rules.specs.Form.Laws.{Reads, Returns}
-use Rattle.rules.specs.Wire.{leafBytes, bitsBytes, bytes, widths, byteFrom, numberFrom, placed, leafFrom, lanesFrom, bitsBody, bitsFrom, fromBytes}
+use Rattle.rules.specs.Wire.{leafBytes, bitsBytes, bytes, widths, byteFrom, whole, numberFrom, placed, leafFrom, lanesIn, lanesFrom, bitsBody, bitsFrom, fromBytes}
+
+-- ---- what is whole
+
+module _ {A : Type 0} (n : ℕ) (y : Refusal) (s : List ℕ) (g : List ℕ → Res A) where
+  pub whole-there : n ≤ length s → whole n y s g ≡ g (take n s)
+  unfolding whole
+  whole-there h = ap (λ b. pick b (bad y) (g (take n s))) (le-ltb (length s) n h)
+
+  pub whole-short : length s < n → whole n y s g ≡ bad y
+  unfolding whole
+  whole-short h = ap (λ b. pick b (bad y) (g (take n s))) (lt-ltb (length s) n h)
+
+  pub whole-got : (v : A) (j : ℕ) → whole n y s g ≡ got v j → (n ≤ length s) × (g (take n s) ≡ got v j)
+  unfolding whole
+  whole-got v j e = go (ltb (length s) n) refl e
+    where
+      go : (x : Bool) → ltb (length s) n ≡ x → pick x (bad y) (g (take n s)) ≡ got v j → (n ≤ length s) × (g (take n s) ≡ got v j)
+      go true q f = absurd (let z : _≡_ {A = ℕ} 0 1 = cc in omega arith)
+      go false q f = (ltb-false (length s) n q, f)
 
 -- ---- what was written is read
 
@@ -35,7 +54,7 @@ number-reads : (n v : ℕ) → v < 2 ^ (8 * n) → Writes (numberFrom n) v (leBy
 unfolding numberFrom
 number-reads n v h at s =
     let there : n ≤ length (leBytes n v ++ s) = omega (arith, length-append (leBytes n v) s, length-bytes n v) in
-    ap (λ b. pick b (bad (shortAt at)) (got (leValue (take n (leBytes n v ++ s))) n)) (le-ltb (length (leBytes n v ++ s)) n there)
+    whole-there n _ (leBytes n v ++ s) (λ l. got (leValue l) n) there
     ∙ ap (λ x. got x n) (ap leValue (take-at (leBytes n v) s n (length-bytes n v)) ∙ value-bytes n v h)
     ∙ ap (got v) (sym (length-bytes n v))
 
@@ -61,27 +80,27 @@ leaf-reads (fixed w) v h at s = number-reads (size w) v h at s
 leaf-reads (compact w) v h at s = wire-compact w v h at s
 leaf-reads (float w) v h at s = number-reads (size w) v h at s
 
-lanes-reads : (at : ℕ) (v : List Bool) → Writes (λ _ l. lanesFrom (length v) at l) v (pack 8 (words8 (length v)) v)
-unfolding lanesFrom
-lanes-reads at v at′ s =
+lanes-reads : (at : ℕ) (v : List Bool) → Writes (lanesFrom (length v) at) v (pack 8 (words8 (length v)) v)
+unfolding lanesFrom lanesIn
+lanes-reads at v from s =
     let n = length v in
     let k = words8 n in
     let p = pack 8 k v in
     let there : k ≤ length (p ++ s) = omega (arith, length-append p s, length-pack 8 k v) in
-    ap (λ b. pick b (bad (shortAt at)) (got (lanes 8 n (take k (p ++ s))) k)) (le-ltb (length (p ++ s)) k there)
+    whole-there k _ (p ++ s) (lanesIn n at) there
     ∙ ap (λ x. got x k) (ap (lanes 8 n) (take-at p s k (length-pack 8 k v)) ∙ lanes-pack 8 k v (omega arith))
     ∙ ap (got v) (sym (length-pack 8 k v))
 
-body-reads : (at : ℕ) (v : List Bool) → length v ≤ maxBits → Writes (λ _ l. bitsBody (length v) at l) v (pack 8 (words8 (length v)) v)
+body-reads : (at : ℕ) (v : List Bool) → length v ≤ maxBits → Writes (bitsBody (length v) at) v (pack 8 (words8 (length v)) v)
 unfolding bitsBody
-body-reads at v h at′ s =
-    ap (λ b. pick b (lanesFrom (length v) at (pack 8 (words8 (length v)) v ++ s)) (bad (bitCountAt at))) (le-leb (length v) maxBits h) ∙ lanes-reads at v at′ s
+body-reads at v h from s =
+    ap (λ b. pick b (lanesFrom (length v) at from (pack 8 (words8 (length v)) v ++ s)) (bad (bitCountAt at))) (le-leb (length v) maxBits h) ∙ lanes-reads at v from s
 
 pub wire-reads : Reads bytes fromBytes
 unfolding bitsBytes bitsFrom
 wire-reads = record {
   leaf-reads = leaf-reads;
-  bits-reads = λ v h at s. writes-bind (leafFrom (compact w4)) (λ n _ l. bitsBody n at l) (length v) v (leafBytes (compact w4) (length v)) (pack 8 (words8 (length v)) v)
+  bits-reads = λ v h at s. writes-bind (leafFrom (compact w4)) (λ n. bitsBody n at) (length v) v (leafBytes (compact w4) (length v)) (pack 8 (words8 (length v)) v)
       (leaf-reads (compact w4) (length v) (omega arith)) (body-reads at v h) at s;
 }
 
@@ -105,21 +124,18 @@ byte-back m at (b ∷ s) v n e = go (ltb b m) refl e
 
 number-back : (k at : ℕ) (s : List ℕ) (v n : ℕ) → Under 256 s → numberFrom k at s ≡ got v n → (n ≤ length s) × ((v < 2 ^ (8 * k)) × (leBytes k v ≡ take n s))
 unfolding numberFrom
-number-back k at s v n u e = go (ltb (length s) k) refl e
-  where
-    go : (x : Bool) → ltb (length s) k ≡ x → pick x (bad (shortAt at)) (got (leValue (take k s)) k) ≡ got v n → (n ≤ length s) × ((v < 2 ^ (8 * k)) × (leBytes k v ≡ take n s))
-    go true q f = absurd (let z : _≡_ {A = ℕ} 0 1 = cc in omega arith)
-    go false q f =
-        let a : leValue (take k s) ≡ v = cc in
-        let c : k ≡ n = cc in
-        let there : k ≤ length s = ltb-false (length s) k q in
-        let len : length (take k s) ≡ k = length-take-le k s there in (
-          omega arith,
-          (
-            subst (λ x. x < 2 ^ (8 * k)) a (value-lt k s u),
-            ap₂ leBytes (sym len) (sym a) ∙ bytes-value (take k s) (under-take 256 k s u) ∙ ap (λ x. take x s) c,
-          ),
-        )
+number-back k at s v n u e =
+    let w = whole-got k _ s (λ l. got (leValue l) k) v n e in
+    let f : got (leValue (take k s)) k ≡ got v n = w .1 in
+    let a : leValue (take k s) ≡ v = cc in
+    let c : k ≡ n = cc in
+    let len : length (take k s) ≡ k = length-take-le k s (w .0) in (
+      omega (arith, w .0),
+      (
+        subst (λ x. x < 2 ^ (8 * k)) a (value-lt k s u),
+        ap₂ leBytes (sym len) (sym a) ∙ bytes-value (take k s) (under-take 256 k s u) ∙ ap (λ x. take x s) c,
+      ),
+    )
 
 pub placed-says : (at : ℕ) (a : Answer) (v n : ℕ) → placed at a ≡ got v n → a ≡ value v n
 unfolding placed
@@ -163,37 +179,51 @@ leaf-back k at s v n u e =
     let r = exact-back k at s v n u e in
     (r .0, (r .1 .0, exact-like (leafBytes k v) (take n s) (r .1 .1) (under-take 256 n s u)))
 
+-- what it says that n bits were read
+pub record Laned (n : ℕ) (s : List ℕ) (v : List Bool) (j : ℕ) : Type 0 where
+  pub there : words8 n ≤ length s
+  pub bits : lanes 8 n (take (words8 n) s) ≡ v
+  pub used : words8 n ≡ j
+
+pub lanes-got : (n at from : ℕ) (s : List ℕ) (v : List Bool) (j : ℕ) → lanesFrom n at from s ≡ got v j → Laned n s v j
+unfolding lanesFrom lanesIn
+lanes-got n at from s v j e =
+    let w = whole-got (words8 n) _ s (lanesIn n at) v j e in
+    let f : got (lanes 8 n (take (words8 n) s)) (words8 n) ≡ got v j = w .1 in
+    let a : lanes 8 n (take (words8 n) s) ≡ v = cc in
+    let c : words8 n ≡ j = cc in
+    record { there = w .0; bits = a; used = c }
+
+-- as many bits as the count says
+pub lanes-length : (c at from : ℕ) (l : List ℕ) (v : List Bool) (n : ℕ) → lanesFrom c at from l ≡ got v n → length v ≡ c
+lanes-length c at from l v n e =
+    let r = lanes-got c at from l v n e in
+    ap length (sym (r .bits)) ∙ length-lanes 8 c (take (words8 c) l) (omega (arith, length-take-le (words8 c) l (r .there)))
+
 -- n bits v from the bytes l
 abbrev Lanes : ℕ → List Bool → List ℕ → Type 0
 Lanes n v l = (length v ≡ n) × Like (counted 8 (words8 n) n) (pack 8 (words8 n) v) l
 
-lanes-back : (at n : ℕ) → Backs 256 (Lanes n) (λ _ l. lanesFrom n at l)
-unfolding lanesFrom
-lanes-back at n at′ s v j u e = go (ltb (length s) (words8 n)) refl e
-  where
-    go : (y : Bool) → ltb (length s) (words8 n) ≡ y → pick y (bad (shortAt at)) (got (lanes 8 n (take (words8 n) s)) (words8 n)) ≡ got v j → (j ≤ length s) × Lanes n v (take j s)
-    go true q f = absurd (let z : _≡_ {A = ℕ} 0 1 = cc in omega arith)
-    go false q f =
-        let a : lanes 8 n (take (words8 n) s) ≡ v = cc in
-        let c : words8 n ≡ j = cc in
-        let there : words8 n ≤ length s = ltb-false (length s) (words8 n) q in
-        let len : length (take (words8 n) s) ≡ words8 n = length-take-le (words8 n) s there in
-        let like : Like (counted 8 (words8 n) n) (pack 8 (words8 n) (lanes 8 n (take (words8 n) s))) (take (words8 n) s) =
-        subst (λ k. Like (counted 8 k n) (pack 8 k (lanes 8 n (take (words8 n) s))) (take (words8 n) s)) len (pack-lanes 8 n (take (words8 n) s)) in (
-          omega arith,
-          (
-            ap length (sym a) ∙ length-lanes 8 n (take (words8 n) s) (omega arith),
-            subst (λ x. Like (counted 8 (words8 n) n) (pack 8 (words8 n) v) (take x s)) c (subst (λ x. Like (counted 8 (words8 n) n) (pack 8 (words8 n) x) (take (words8 n) s)) a like),
-          ),
-        )
+lanes-back : (at n : ℕ) → Backs 256 (Lanes n) (lanesFrom n at)
+lanes-back at n from s v j u e =
+    let r = lanes-got n at from s v j e in
+    let len : length (take (words8 n) s) ≡ words8 n = length-take-le (words8 n) s (r .there) in
+    let like : Like (counted 8 (words8 n) n) (pack 8 (words8 n) (lanes 8 n (take (words8 n) s))) (take (words8 n) s) =
+    subst (λ k. Like (counted 8 k n) (pack 8 k (lanes 8 n (take (words8 n) s))) (take (words8 n) s)) len (pack-lanes 8 n (take (words8 n) s)) in (
+      omega (arith, r .there, r .used),
+      (
+        lanes-length n at from s v j e,
+        subst (λ x. Like (counted 8 (words8 n) n) (pack 8 (words8 n) v) (take x s)) (r .used) (subst (λ x. Like (counted 8 (words8 n) n) (pack 8 (words8 n) x) (take (words8 n) s)) (r .bits) like),
+      ),
+    )
 
-body-back : (at n : ℕ) → Backs 256 (λ v l. (n ≤ maxBits) × Lanes n v l) (λ _ l. bitsBody n at l)
+body-back : (at n : ℕ) → Backs 256 (λ v l. (n ≤ maxBits) × Lanes n v l) (bitsBody n at)
 unfolding bitsBody
-body-back at n at′ s v j u e = go (leb n maxBits) refl e
+body-back at n from s v j u e = go (leb n maxBits) refl e
   where
-    go : (x : Bool) → leb n maxBits ≡ x → pick x (lanesFrom n at s) (bad (bitCountAt at)) ≡ got v j → (j ≤ length s) × ((n ≤ maxBits) × Lanes n v (take j s))
+    go : (x : Bool) → leb n maxBits ≡ x → pick x (lanesFrom n at from s) (bad (bitCountAt at)) ≡ got v j → (j ≤ length s) × ((n ≤ maxBits) × Lanes n v (take j s))
     go false p f = absurd (let z : _≡_ {A = ℕ} 0 1 = cc in omega arith)
-    go true p f = let r = lanes-back at n at′ s v j u f in (r .0, (leb-true n maxBits p, r .1))
+    go true p f = let r = lanes-back at n from s v j u f in (r .0, (leb-true n maxBits p, r .1))
 
 bits-both : (n : ℕ) (v : List Bool) (l k : List ℕ) → (n < 2 ^ 32) × Like (replicate (length (leafBytes (compact w4) n)) 8) (leafBytes (compact w4) n) l
     → (n ≤ maxBits) × Lanes n v k → (length v ≤ maxBits) × Like (widths .bitsOut v) (bitsBytes v) (l ++ k)
@@ -210,7 +240,7 @@ unfolding bitsFrom
 wire-returns = record {
   leaf-back = leaf-back;
   bits-back = λ at s v n u e. back-bind 256 (λ v l. (v < 2 ^ 32) × Like (replicate (length (leafBytes (compact w4) v)) 8) (leafBytes (compact w4) v) l) (λ n v l. (n ≤ maxBits) × Lanes n v l)
-      (λ v l. (length v ≤ maxBits) × Like (widths .bitsOut v) (bitsBytes v) l) (leafFrom (compact w4)) (λ n _ l. bitsBody n at l)
+      (λ v l. (length v ≤ maxBits) × Like (widths .bitsOut v) (bitsBytes v) l) (leafFrom (compact w4)) (λ n. bitsBody n at)
       (leaf-back (compact w4)) (body-back at) bits-both at s v n u e;
 }
 
@@ -225,15 +255,3 @@ tag-lt at (c ∷ s) b n e = go (ltb c 2) refl e
     go : (x : Bool) → ltb c 2 ≡ x → pick x (got c 1) (bad (tagAt at)) ≡ got b n → b < 2
     go true q f = let a : c ≡ b = cc in omega (arith, ltb-true c 2 q)
     go false q f = absurd (let z : _≡_ {A = ℕ} 0 1 = cc in omega arith)
-
--- as many bits as the count says
-pub lanes-length : (c at : ℕ) (l : List ℕ) (v : List Bool) (n : ℕ) → lanesFrom c at l ≡ got v n → length v ≡ c
-unfolding lanesFrom
-lanes-length c at l v n e = go (ltb (length l) (words8 c)) refl e
-  where
-    go : (b : Bool) → ltb (length l) (words8 c) ≡ b → pick b (bad (shortAt at)) (got (lanes 8 c (take (words8 c) l)) (words8 c)) ≡ got v n → length v ≡ c
-    go true q f = absurd (let z : _≡_ {A = ℕ} 0 1 = cc in omega arith)
-    go false q f =
-        let a : lanes 8 c (take (words8 c) l) ≡ v = cc in
-        let h : length (take (words8 c) l) ≡ words8 c = length-take-le (words8 c) l (ltb-false (length l) (words8 c) q) in
-        ap length (sym a) ∙ length-lanes 8 c (take (words8 c) l) (omega arith)

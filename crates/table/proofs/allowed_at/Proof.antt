@@ -5,30 +5,6 @@ use Rattle.rules.specs.Table.{allowed}
 use Rattle.table.proofs.allowed_at.Statement.{statement}
 use Rattle.table.proofs.allowed_at.Tie as tie
 
-enum-told : tie.Need-enum-told
-enum-told c = search needs
-
-enum-known-node : tie.Need-enum-known-node
-enum-known-node c = search needs
-
-enum-known-node-2 : tie.Need-enum-known-node-2
-enum-known-node-2 c = search needs
-
-enum-known-node-3 : tie.Need-enum-known-node-3
-enum-known-node-3 c = search needs
-
-enum-known-node-4 : tie.Need-enum-known-node-4
-enum-known-node-4 c = search needs
-
-enum-known-node-5 : tie.Need-enum-known-node-5
-enum-known-node-5 c = search needs
-
-enum-told-2 : tie.Need-enum-told-2
-enum-told-2 c = search needs
-
-enum-told-3 : tie.Need-enum-told-3
-enum-told-3 c = search needs
-
 returns : tie.Need-returns
 unfolding allowed
 returns c = rw (c .enum-told .given .1)
@@ -73,14 +49,14 @@ pub allowed-at-spec : {M : Type 1} → statement M
 allowed-at-spec =
     tie.close
     (tie.spec
-    enum-told
-    enum-known-node
-    enum-known-node-2
-    enum-known-node-3
-    enum-known-node-4
-    enum-known-node-5
-    enum-told-2
-    enum-told-3
+    (λ c. search needs)
+    (λ c. search needs)
+    (λ c. search needs)
+    (λ c. search needs)
+    (λ c. search needs)
+    (λ c. search needs)
+    (λ c. search needs)
+    (λ c. search needs)
     returns
     returns-2
     returns-3

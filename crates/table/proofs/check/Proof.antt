@@ -5,12 +5,9 @@ use Rattle.rules.specs.Table.{footprintsOf}
 use Rattle.table.proofs.check.Statement.{statement}
 use Rattle.table.proofs.check.Tie as tie
 
-footprints-requires : tie.Need-footprints-requires
-footprints-requires c κs = search needs
-
 returns : tie.Need-returns
 unfolding footprintsOf
 returns c = ap (λ f. f .check) (c .footprints .ensures)
 
 pub check-spec : {M : Type 1} → statement M
-check-spec = tie.close (tie.spec footprints-requires returns)
+check-spec = tie.close (tie.spec (λ c κs. search needs) returns)

@@ -6,28 +6,13 @@ use Rattle.rules.specs.Table.{headCheck}
 use Rattle.table.proofs.check_head.Statement.{statement}
 use Rattle.table.proofs.check_head.Tie as tie
 
-refuse-requires : tie.Need-refuse-requires
-refuse-requires c κs = search needs
-
 returns : tie.Need-returns
 unfolding headCheck
 returns c = c .refuse .ensures ∙ rw (lt-ltb _ 6 (c .before .if1 .taken))
 
-is-marked-requires : tie.Need-is-marked-requires
-is-marked-requires c κs = search needs
-
-refuse-requires-2 : tie.Need-refuse-requires-2
-refuse-requires-2 c κs = search needs
-
 returns-2 : tie.Need-returns-2
 unfolding headCheck
 returns-2 c = c .refuse2 .ensures ∙ rw (le-ltb _ 6 (c .before .before .before .if1 .left), sym (c .before .before .is-marked .ensures) ∙ not-true _ (c .before .if2 .taken))
-
-is-sized-requires : tie.Need-is-sized-requires
-is-sized-requires c κs = search needs
-
-refuse-requires-3 : tie.Need-refuse-requires-3
-refuse-requires-3 c κs = search needs
 
 returns-3 : tie.Need-returns-3
 unfolding headCheck
@@ -43,12 +28,12 @@ pub check-head-spec : {M : Type 1} → statement M
 check-head-spec =
     tie.close
     (tie.spec
-    refuse-requires
+    (λ c κs. search needs)
     returns
-    is-marked-requires
-    refuse-requires-2
+    (λ c κs. search needs)
+    (λ c κs. search needs)
     returns-2
-    is-sized-requires
-    refuse-requires-3
+    (λ c κs. search needs)
+    (λ c κs. search needs)
     returns-3
     returns-4)

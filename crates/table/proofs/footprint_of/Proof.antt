@@ -11,29 +11,8 @@ use Rattle.table.proofs.footprint_of.Tie as tie
 both : (c : tie.After-number-at3) → c .before .number-at2 .result + c .number-at3 .result < 2 ^ 32
 both c = omega (arith, c .before .number-at2 .ensures, c .number-at3 .ensures, c .before .before .before .before .before .before .pre .0 (c .before .before .before .node3 .given .0 .0), c .before .before .before .before .before .before .pre .0 (c .before .before .before .node3 .given .0 .1 .0))
 
-enum-known-node : tie.Need-enum-known-node
-enum-known-node c = search needs
-
-leaf-footprint-requires : tie.Need-leaf-footprint-requires
-leaf-footprint-requires c κs = search needs
-
-enum-known-node-2 : tie.Need-enum-known-node-2
-enum-known-node-2 c = search needs
-
-number-at-requires : tie.Need-number-at-requires
-number-at-requires c κs = search needs
-
 add-result : tie.Need-add-result
 add-result c = omega (arith, c .number-at .ensures, c .before .before .before .before .before .pre .0 (c .before .before .node2 .given .0 .0))
-
-enum-known-node-3 : tie.Need-enum-known-node-3
-enum-known-node-3 c = search needs
-
-number-at-requires-2 : tie.Need-number-at-requires-2
-number-at-requires-2 c κs = search needs
-
-number-at-requires-3 : tie.Need-number-at-requires-3
-number-at-requires-3 c κs = search needs
 
 add-result-2 : tie.Need-add-result-2
 add-result-2 c = omega (arith, both c)
@@ -41,35 +20,11 @@ add-result-2 c = omega (arith, both c)
 add-result-3 : tie.Need-add-result-3
 add-result-3 c = omega (arith, both c)
 
-enum-known-node-4 : tie.Need-enum-known-node-4
-enum-known-node-4 c = search needs
-
-number-at-requires-4 : tie.Need-number-at-requires-4
-number-at-requires-4 c κs = search needs
-
-number-at-requires-5 : tie.Need-number-at-requires-5
-number-at-requires-5 c κs = search needs
-
 add-result-4 : tie.Need-add-result-4
 add-result-4 c = omega (arith, c .before .number-at4 .ensures, c .number-at5 .ensures, c .before .before .before .before .before .before .pre .0 (c .before .before .before .node4 .given .0 .0), c .before .before .before .before .before .before .pre .0 (c .before .before .before .node4 .given .0 .1 .0))
 
-enum-known-node-5 : tie.Need-enum-known-node-5
-enum-known-node-5 c = search needs
-
-number-at-requires-6 : tie.Need-number-at-requires-6
-number-at-requires-6 c κs = search needs
-
 mul-result : tie.Need-mul-result
 mul-result c = record { fits = product-fits (rw (c .before .before .node5 .given .1) at (c .before .before .before .before .before .pre .1) .1) (omega (arith, c .number-at6 .ensures, c .before .before .before .before .before .pre .0 (c .before .before .node5 .given .0 .1 .0))) }
-
-enum-told : tie.Need-enum-told
-enum-told c = search needs
-
-enum-told-2 : tie.Need-enum-told-2
-enum-told-2 c = search needs
-
-enum-told-3 : tie.Need-enum-told-3
-enum-told-3 c = search needs
 
 returns : tie.Need-returns
 unfolding footOver
@@ -107,26 +62,26 @@ pub footprint-of-spec : {M : Type 1} → statement M
 footprint-of-spec =
     tie.close
     (tie.spec
-    enum-known-node
-    leaf-footprint-requires
-    enum-known-node-2
-    number-at-requires
+    (λ c. search needs)
+    (λ c κs. search needs)
+    (λ c. search needs)
+    (λ c κs. search needs)
     add-result
-    enum-known-node-3
-    number-at-requires-2
-    number-at-requires-3
+    (λ c. search needs)
+    (λ c κs. search needs)
+    (λ c κs. search needs)
     add-result-2
     add-result-3
-    enum-known-node-4
-    number-at-requires-4
-    number-at-requires-5
+    (λ c. search needs)
+    (λ c κs. search needs)
+    (λ c κs. search needs)
     add-result-4
-    enum-known-node-5
-    number-at-requires-6
+    (λ c. search needs)
+    (λ c κs. search needs)
     mul-result
-    enum-told
-    enum-told-2
-    enum-told-3
+    (λ c. search needs)
+    (λ c. search needs)
+    (λ c. search needs)
     returns
     returns-2
     returns-3

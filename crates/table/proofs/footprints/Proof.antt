@@ -7,23 +7,8 @@ use Rattle.table.specs.Filling.{refused-feet}
 use Rattle.table.proofs.footprints.Statement.{statement}
 use Rattle.table.proofs.footprints.Tie as tie
 
-check-head-requires : tie.Need-check-head-requires
-check-head-requires c κs = search needs
-
-enum-told : tie.Need-enum-told
-enum-told c = search needs
-
 weigh-requires : tie.Need-weigh-requires
 weigh-requires c κs = sym (c .before .before .check-head .ensures) ∙ c .enum-told .given .1
-
-enum-told-2 : tie.Need-enum-told-2
-enum-told-2 c = search needs
-
-no-feet-requires : tie.Need-no-feet-requires
-no-feet-requires c κs = search needs
-
-returns : tie.Need-returns
-returns c = search needs
 
 returns-2 : tie.Need-returns-2
 returns-2 c =
@@ -34,10 +19,10 @@ pub footprints-spec : {M : Type 1} → statement M
 footprints-spec =
     tie.close
     (tie.spec
-    check-head-requires
-    enum-told
+    (λ c κs. search needs)
+    (λ c. search needs)
     weigh-requires
-    enum-told-2
-    no-feet-requires
-    returns
+    (λ c. search needs)
+    (λ c κs. search needs)
+    (λ c. search needs)
     returns-2)

@@ -4,32 +4,17 @@ use borrow.Author.Tests.{eq-eqb, ne-eqb}
 use Rattle.table.proofs.is_marked.Statement.{statement}
 use Rattle.table.proofs.is_marked.Tie as tie
 
-shared-slice-read-if1 : tie.Need-shared-slice-read-if1
-shared-slice-read-if1 c = search needs
-
 returns : tie.Need-returns
 returns c = rw (ne-eqb _ 0x57 (c .if1 .taken))
-
-shared-slice-read-if2 : tie.Need-shared-slice-read-if2
-shared-slice-read-if2 c = search needs
 
 returns-2 : tie.Need-returns-2
 returns-2 c = rw (eq-eqb _ 0x57 (c .before .before .if1 .left), ne-eqb _ 0x54 (c .if2 .taken))
 
-shared-slice-read-if3 : tie.Need-shared-slice-read-if3
-shared-slice-read-if3 c = search needs
-
 returns-3 : tie.Need-returns-3
 returns-3 c = rw (eq-eqb _ 0x57 (c .before .before .before .before .if1 .left), eq-eqb _ 0x54 (c .before .before .if2 .left), ne-eqb _ 0x44 (c .if3 .taken))
 
-shared-slice-read-if4 : tie.Need-shared-slice-read-if4
-shared-slice-read-if4 c = search needs
-
 returns-4 : tie.Need-returns-4
 returns-4 c = rw (eq-eqb _ 0x57 (c .before .before .before .before .before .before .if1 .left), eq-eqb _ 0x54 (c .before .before .before .before .if2 .left), eq-eqb _ 0x44 (c .before .before .if3 .left), ne-eqb _ 1 (c .if4 .taken))
-
-shared-slice-read-result : tie.Need-shared-slice-read-result
-shared-slice-read-result c = search needs
 
 returns-5 : tie.Need-returns-5
 returns-5 c = rw (eq-eqb _ 0x57 (c .before .before .before .before .before .before .before .if1 .left), eq-eqb _ 0x54 (c .before .before .before .before .before .if2 .left), eq-eqb _ 0x44 (c .before .before .before .if3 .left), eq-eqb _ 1 (c .before .if4 .left))
@@ -38,13 +23,13 @@ pub is-marked-spec : {M : Type 1} → statement M
 is-marked-spec =
     tie.close
     (tie.spec
-    shared-slice-read-if1
+    (λ c. search needs)
     returns
-    shared-slice-read-if2
+    (λ c. search needs)
     returns-2
-    shared-slice-read-if3
+    (λ c. search needs)
     returns-3
-    shared-slice-read-if4
+    (λ c. search needs)
     returns-4
-    shared-slice-read-result
+    (λ c. search needs)
     returns-5)

@@ -12,41 +12,17 @@ Inv-loop buffer₀ i₀ buffer i = (66 ≡ length buffer) × (i ≤ 64)
 abbrev μ-loop : tie.MeasureT-loop
 μ-loop buffer₀ i₀ buffer i = 64 - i
 
-array-write-buffer : tie.Need-array-write-buffer Inv-loop μ-loop
-array-write-buffer c = search needs
-
-loop-holds : tie.Need-loop-holds Inv-loop μ-loop
-loop-holds c = search needs
-
-cast-buffer : tie.Need-cast-buffer Inv-loop μ-loop
-cast-buffer c = search needs
-
-array-write-buffer-2 : tie.Need-array-write-buffer-2 Inv-loop μ-loop
-array-write-buffer-2 c = search needs
-
-add-i : tie.Need-add-i Inv-loop μ-loop
-add-i c = search needs
-
-loop-less : tie.Need-loop-less Inv-loop μ-loop
-loop-less c = search needs
-
-loop-again : tie.Need-loop-again Inv-loop μ-loop
-loop-again c = search needs
-
-returns : tie.Need-returns Inv-loop μ-loop
-returns c = search needs
-
 pub before-spec : {M : Type 1} → statement M
 before-spec =
     tie.close
     (tie.spec
     Inv-loop
     μ-loop
-    array-write-buffer
-    loop-holds
-    cast-buffer
-    array-write-buffer-2
-    add-i
-    loop-less
-    loop-again
-    returns)
+    (λ c. search needs)
+    (λ c. search needs)
+    (λ c. search needs)
+    (λ c. search needs)
+    (λ c. search needs)
+    (λ c. search needs)
+    (λ c. search needs)
+    (λ c. search needs))

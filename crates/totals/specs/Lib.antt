@@ -1,0 +1,4 @@
+pub mod Nodes
+pub mod Laws
+pub mod Units
+pub mod Filling
