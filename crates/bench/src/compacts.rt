@@ -50,7 +50,10 @@ fn accepts(width: Width, bytes: &[u8], value: u64) -> bool {
     if !is_value(compact::read(bytes, width), value, bytes.len()) {
         return false;
     }
-    cases::is_encoded(value, 0, bytes)
+    let encoded = compact_put::write(value, 0);
+    let n = encoded.len;
+    let written = encoded.bytes;
+    check::same(&written[..n], bytes)
 }
 
 fn say_compact(same: bool, name: &[u8], width: Width, how: &[u8], bytes: &[u8]) {
@@ -83,14 +86,18 @@ fn number_of(answer: Reading) -> u32 {
     }
 }
 
+fn table_refuses(width: Width, bytes: &[u8], number: u32) -> bool {
+    let table = table_of(width);
+    refuses(&table, bytes, usual(), number)
+}
+
 // The bytes are no value.
 fn refused(tally: Tally, name: &[u8], width: Width, bytes: &[u8], number: u32) -> Tally {
     let same = number_of(compact::read(bytes, width)) == number;
     say_compact(same, name, width, b"", bytes);
     say_refusal(number);
     let tally = tally.with(same);
-    let table = table_of(width);
-    let same = refuses(&table, bytes, usual(), number);
+    let same = table_refuses(width, bytes, number);
     say_compact(same, name, width, b" by a table", bytes);
     say_refusal(number);
     tally.with(same)
@@ -109,19 +116,40 @@ pub(crate) fn plans(tally: Tally) -> Tally {
     accepted(tally, b"255", Width::W1, b"\xfd\x03", 255)
 }
 
-pub(crate) fn refusals(tally: Tally) -> Tally {
-    let tally = refused(tally, b"0 in two bytes", Width::W1, b"\x01\x00", 13);
-    let tally = refused(tally, b"0 in two bytes", Width::W2, b"\x01\x00", 13);
-    let tally = refused(tally, b"0 in two bytes", Width::W4, b"\x01\x00", 13);
-    let tally = refused(tally, b"0 in two bytes", Width::W8, b"\x01\x00", 13);
-    let tally = refused(tally, b"0 in two bytes", Width::W16, b"\x01\x00", 13);
+// 0 in a byte more than it needs.
+fn zero_in_two_bytes(tally: Tally, width: Width) -> Tally {
+    refused(tally, b"0 in two bytes", width, b"\x01\x00", 13)
+}
+
+fn zero_at_every_width(tally: Tally) -> Tally {
+    let tally = zero_in_two_bytes(tally, Width::W1);
+    let tally = zero_in_two_bytes(tally, Width::W2);
+    let tally = zero_in_two_bytes(tally, Width::W4);
+    let tally = zero_in_two_bytes(tally, Width::W8);
+    zero_in_two_bytes(tally, Width::W16)
+}
+
+// The least value that the width does not hold.
+fn too_large(tally: Tally) -> Tally {
     let tally = refused(tally, b"256", Width::W1, b"\x01\x04", 13);
-    let tally = refused(tally, b"65536", Width::W2, b"\x02\x00\x04\x00", 13);
-    let tally = refused(tally, b"first byte alone", Width::W1, b"\x02", 12);
-    let tally = refused(tally, b"first byte alone", Width::W2, b"\x03", 12);
-    let tally = refused(tally, b"first byte alone", Width::W4, b"\x07", 13);
-    let tally = refused(tally, b"first byte alone", Width::W8, b"\x17", 12);
-    refused(tally, b"first byte alone", Width::W16, b"\x37", 12)
+    refused(tally, b"65536", Width::W2, b"\x02\x00\x04\x00", 13)
+}
+
+// The first byte of an encoding of several bytes.
+fn first_byte_alone(tally: Tally, width: Width, byte: u8, number: u32) -> Tally {
+    refused(tally, b"first byte alone", width, &[byte], number)
+}
+
+fn first_byte_at_every_width(tally: Tally) -> Tally {
+    let tally = first_byte_alone(tally, Width::W1, 0x02, 12);
+    let tally = first_byte_alone(tally, Width::W2, 0x03, 12);
+    let tally = first_byte_alone(tally, Width::W4, 0x07, 13);
+    let tally = first_byte_alone(tally, Width::W8, 0x17, 12);
+    first_byte_alone(tally, Width::W16, 0x37, 12)
+}
+
+pub(crate) fn refusals(tally: Tally) -> Tally {
+    first_byte_at_every_width(too_large(zero_at_every_width(tally)))
 }
 
 // A value of u64 and wider, of u16 and wider, and of every width.
@@ -141,12 +169,19 @@ fn from_u8(tally: Tally, name: &[u8], bytes: &[u8], value: u64) -> Tally {
     from_u16(tally, name, bytes, value)
 }
 
-pub(crate) fn examples(tally: Tally) -> Tally {
+fn small_examples(tally: Tally) -> Tally {
     let tally = from_u8(tally, b"compact 0", b"\x00", 0);
     let tally = from_u8(tally, b"compact 1", b"\x04", 1);
     let tally = from_u8(tally, b"compact 42", b"\xa8", 42);
-    let tally = from_u8(tally, b"compact 69", b"\x15\x01", 69);
+    from_u8(tally, b"compact 69", b"\x15\x01", 69)
+}
+
+fn large_examples(tally: Tally) -> Tally {
     let tally = from_u16(tally, b"compact 65535", b"\xfe\xff\x03\x00", 65535);
     let bytes = b"\x0b\x00\x40\x7a\x10\xf3\x5a";
     from_u64(tally, b"compact 100000000000000", bytes, 100000000000000)
+}
+
+pub(crate) fn examples(tally: Tally) -> Tally {
+    large_examples(small_examples(tally))
 }

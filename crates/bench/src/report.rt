@@ -26,17 +26,13 @@ pub(crate) fn say_plan(same: bool, name: &[u8]) {
 }
 
 pub(crate) fn say_width(width: Width) {
-    match width {
-        Width::W1 => say(b" at u8"),
-        Width::W2 => say(b" at u16"),
-        Width::W4 => say(b" at u32"),
-        Width::W8 => say(b" at u64"),
-        Width::W16 => say(b" at u128"),
-    }
+    say(b" at u");
+    say_number(8 * (compact::size(width) as u64));
 }
 
-fn wide(byte: u8) -> u64 {
-    byte as u64
+fn say_byte(byte: u8) {
+    say(b" ");
+    io::print_hex(STDOUT_FILENO, byte as u64, 2);
 }
 
 // The bytes of a message, in hexadecimal.
@@ -44,8 +40,7 @@ pub(crate) fn say_bytes(bytes: &[u8]) {
     say(b":");
     let mut i = 0;
     while i < bytes.len() {
-        say(b" ");
-        io::print_hex(STDOUT_FILENO, wide(bytes[i]), 2);
+        say_byte(bytes[i]);
         i += 1;
     }
 }

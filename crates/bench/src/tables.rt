@@ -59,29 +59,28 @@ fn refused(
     tally.with(same)
 }
 
+// Only D limits.
+fn with_depth(depth: u32) -> Limits {
+    Limits {
+        depth,
+        memory: 0xffff_ffff_ffff_ffff,
+        cells: 0xffff_ffff_ffff_ffff,
+    }
+}
+
 pub(crate) fn bit_heads(tally: Tally) -> Tally {
-    let all = 0xffff_ffff_ffff_ffff;
-    let shallow = Limits {
-        depth: 0,
-        memory: all,
-        cells: all,
-    };
-    let free = Limits {
-        depth: 16,
-        memory: all,
-        cells: all,
-    };
     let tally = bit_head(tally, b"2^29 - 1 bits under the usual limits", usual(), 16);
-    let tally = bit_head(tally, b"2^29 - 1 bits under D 0", shallow, 15);
-    let tally = bit_head(
-        tally,
-        b"2^29 - 1 bits under the usual C",
-        with_memory(all),
-        17,
-    );
-    let tally = bit_head(tally, b"2^29 - 1 bits under no limit", free, 10);
+    let tally = bit_head(tally, b"2^29 - 1 bits under D 0", with_depth(0), 15);
+    let limits = with_memory(0xffff_ffff_ffff_ffff);
+    let tally = bit_head(tally, b"2^29 - 1 bits under the usual C", limits, 17);
+    let tally = bit_head(tally, b"2^29 - 1 bits under no limit", with_depth(16), 10);
     let lanes = b"WTD\x01\x00\x01\x0b\x00\x00\x00";
     refused(tally, b"2^29 bits", lanes, b"\x02\x00\x00\x80", usual(), 14)
+}
+
+fn two_shorts(tally: Tally, name: &[u8], limits: Limits) -> Tally {
+    let message = b"\x08\x01\x00\x02\x00";
+    shorts(tally, name, message, limits, &[2, 1, 2], 4)
 }
 
 pub(crate) fn memory_limits(tally: Tally) -> Tally {
@@ -95,63 +94,71 @@ pub(crate) fn memory_limits(tally: Tally) -> Tally {
         with_memory(4),
         16,
     );
-    let tally = shorts(
-        tally,
-        b"two u16s under M 5",
-        message,
-        with_memory(5),
-        &[2, 1, 2],
-        4,
-    );
-    shorts(tally, b"two u16s", message, usual(), &[2, 1, 2], 4)
+    let tally = two_shorts(tally, b"two u16s under M 5", with_memory(5));
+    two_shorts(tally, b"two u16s", usual())
 }
 
-pub(crate) fn numbers(tally: Tally) -> Tally {
-    let tally = accepted(
-        tally,
-        b"69 as i8",
-        b"WTD\x01\x00\x01\x03\x01\x00\x00",
-        b"\x45",
-        &[69],
-    );
-    let tally = accepted(
-        tally,
-        b"42 as u16",
-        b"WTD\x01\x00\x01\x03\x02\x00\x00",
-        b"\x2a\x00",
-        &[42],
-    );
+// A message of one byte, and the same number in the one cell.
+fn one_byte(tally: Tally, name: &[u8], table: &[u8], byte: u8) -> Tally {
+    accepted(tally, name, table, &[byte], &[byte as u64])
+}
+
+fn integers(tally: Tally) -> Tally {
+    let table = b"WTD\x01\x00\x01\x03\x01\x00\x00";
+    let tally = one_byte(tally, b"69 as i8", table, 69);
+    let table = b"WTD\x01\x00\x01\x03\x02\x00\x00";
+    let tally = accepted(tally, b"42 as u16", table, b"\x2a\x00", &[42]);
     let table = b"WTD\x01\x00\x01\x03\x04\x00\x00";
-    let tally = accepted(
+    accepted(
         tally,
         b"16777215 as u32",
         table,
         b"\xff\xff\xff\x00",
         &[16777215],
-    );
-    let table = b"WTD\x01\x00\x01\x01\x00\x00\x00";
-    let tally = accepted(tally, b"false", table, b"\x00", &[0]);
-    accepted(tally, b"true", table, b"\x01", &[1])
+    )
 }
 
-pub(crate) fn compounds(tally: Tally) -> Tally {
+fn bools(tally: Tally) -> Tally {
+    let table = b"WTD\x01\x00\x01\x01\x00\x00\x00";
+    let tally = one_byte(tally, b"false", table, 0);
+    one_byte(tally, b"true", table, 1)
+}
+
+pub(crate) fn numbers(tally: Tally) -> Tally {
+    bools(integers(tally))
+}
+
+fn vector(tally: Tally) -> Tally {
     let message = b"\x18\x04\x00\x08\x00\x0f\x00\x10\x00\x17\x00\x2a\x00";
     let cells = [6, 4, 8, 15, 16, 23, 42];
-    let tally = shorts(
+    shorts(
         tally,
         b"u16s 4, 8, 15, 16, 23, 42",
         message,
         usual(),
         &cells,
         12,
-    );
-    let result = b"WTD\x01\x00\x03\x03\x01\x00\x00\x01\x00\x00\x00\x07\x00\x01\x00";
-    let tally = accepted(tally, b"Ok(42)", result, b"\x00\x2a", &[0, 42]);
-    let tally = accepted(tally, b"Err(false)", result, b"\x01\x00", &[1, 0]);
-    let pair = b"WTD\x01\x00\x03\x04\x04\x00\x00\x01\x00\x00\x00\x08\x00\x01\x00";
-    let tally = accepted(tally, b"compact 3 and false", pair, b"\x0c\x00", &[3, 0]);
-    let option = b"WTD\x01\x00\x01\x02\x00\x00\x00";
-    let tally = accepted(tally, b"no bool", option, b"\x00", &[0]);
-    let tally = accepted(tally, b"a bool that is true", option, b"\x01", &[1]);
-    accepted(tally, b"a bool that is false", option, b"\x02", &[2])
+    )
+}
+
+fn results(tally: Tally) -> Tally {
+    let table = b"WTD\x01\x00\x03\x03\x01\x00\x00\x01\x00\x00\x00\x07\x00\x01\x00";
+    let tally = accepted(tally, b"Ok(42)", table, b"\x00\x2a", &[0, 42]);
+    accepted(tally, b"Err(false)", table, b"\x01\x00", &[1, 0])
+}
+
+fn pair(tally: Tally) -> Tally {
+    let table = b"WTD\x01\x00\x03\x04\x04\x00\x00\x01\x00\x00\x00\x08\x00\x01\x00";
+    accepted(tally, b"compact 3 and false", table, b"\x0c\x00", &[3, 0])
+}
+
+fn options(tally: Tally) -> Tally {
+    let table = b"WTD\x01\x00\x01\x02\x00\x00\x00";
+    let tally = one_byte(tally, b"no bool", table, 0);
+    let tally = one_byte(tally, b"a bool that is true", table, 1);
+    one_byte(tally, b"a bool that is false", table, 2)
+}
+
+pub(crate) fn compounds(tally: Tally) -> Tally {
+    options(pair(results(vector(tally))))
 }

@@ -8,7 +8,7 @@ ghost use Rattle.rules.specs.Bits.{words8, words64, bitsValue, pack, lanes};
 ghost use Rattle.bit_vec.specs.Moves.{bitsRead, cellsRead, bitsWritten, bytesWritten, clearCells};
 use rules::Refusal;
 
-// What moving bits answers: how many bytes they take, or that the words which should hold them are not all there.
+// What writing bits answers: how many bytes they take, or that the cells which should hold them are not all there.
 pub enum Lanes {
     Bytes(usize),
     Short,

@@ -4,7 +4,6 @@ mod fields;
 mod memory;
 mod ops;
 
-pub use memory::is_encoded;
 pub use ops::known;
 pub use ops::run;
 

@@ -73,28 +73,10 @@ pub(crate) fn same_cells(cells: &[u64], bytes: &[u8]) -> bool {
     rest.len() == 0
 }
 
-// Are the first n bytes of a compact encoding, by value, just these?
-fn same_front(bytes: &[u8; 17], n: usize, expected: &[u8]) -> bool {
-    if expected.len() != n {
-        return false;
-    }
-    let mut i = 0;
-    while i < n {
-        if 17 <= i {
-            return false;
-        }
-        if bytes[i] != expected[i] {
-            return false;
-        }
-        i += 1;
-    }
-    true
-}
-
 // Is this the compact encoding of the value?
-pub fn is_encoded(low: u64, high: u64, expected: &[u8]) -> bool {
+pub(crate) fn is_encoded(low: u64, high: u64, expected: &[u8]) -> bool {
     let encoded = compact_put::write(low, high);
     let n = encoded.len;
     let bytes = encoded.bytes;
-    same_front(&bytes, n, expected)
+    check::same(&bytes[..n], expected)
 }

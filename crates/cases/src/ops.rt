@@ -74,29 +74,21 @@ fn of_written(answer: Written) -> [u64; 3]
 
 // ---- comparing
 
-// Which of the numbers is the first that differs from what the body says, in its fields from `first` on; or how many there are, if none does.
-fn first_difference(body: &[u8], fields: Fields, first: usize, got: &[u64]) -> usize
+// The outcome: whether the numbers are those that the body says in its fields from `first` on, and whether the memory behind them is the same.
+fn compare(body: &[u8], fields: Fields, first: usize, got: &[u64], memory: bool) -> Outcome
     requires { ⌜ first + length (now got) ≤ 14 ⌝ }
 {
     let mut i = 0;
     while i < got.len() {
         if number_at(body, fields, first + i) != got[i] {
-            return i;
+            return Outcome::Differs(i);
         }
         i += 1;
-    }
-    i
-}
-
-// The outcome, from the first of `count` numbers that differs and from whether the memory behind them is the same.
-fn settled(first: usize, count: usize, memory: bool) -> Outcome {
-    if first < count {
-        return Outcome::Differs(first);
     }
     if memory {
         return Outcome::Same;
     }
-    Outcome::Differs(count)
+    Outcome::Differs(i)
 }
 
 // ---- compact numbers
@@ -124,7 +116,7 @@ fn run_compact_read(body: &[u8], fields: Fields) -> Outcome {
         Named::Nothing => Outcome::Misfit,
         Named::Width(width) => {
             let got = of_reading(compact::read(bytes_at(body, fields, 1), width));
-            settled(first_difference(body, fields, 2, &got), 4, true)
+            compare(body, fields, 2, &got, true)
         }
     }
 }
@@ -171,13 +163,13 @@ fn run_compact_write(body: &[u8], fields: Fields) -> Outcome {
 // 0 table; 1 number, 2 place.
 fn run_table_check(body: &[u8], fields: Fields) -> Outcome {
     let got = of_check(table::check(bytes_at(body, fields, 0)));
-    settled(first_difference(body, fields, 1, &got), 2, true)
+    compare(body, fields, 1, &got, true)
 }
 
 // 0 table; 1 number, 2 place, 3 has, 4 length.
 fn run_longest(body: &[u8], fields: Fields) -> Outcome {
     let got = of_longest(totals::longest(bytes_at(body, fields, 0)));
-    settled(first_difference(body, fields, 1, &got), 4, true)
+    compare(body, fields, 1, &got, true)
 }
 
 // ---- reading
@@ -227,7 +219,7 @@ fn compare_read(body: &[u8], fields: Fields, flags: u64, cells: &mut [u64]) -> O
     let limits = limits_at(body, fields, 2);
     let got = of_scan(read(table, message, limits, flags, cells));
     let same = same_cells(cells, bytes_at(body, fields, 13));
-    settled(first_difference(body, fields, 7, &got), 6, same)
+    compare(body, fields, 7, &got, same)
 }
 
 fn run_read(body: &[u8], fields: Fields) -> Outcome {
@@ -272,7 +264,7 @@ fn compare_write(body: &[u8], fields: Fields, cells: &[u64], out: &mut [u8]) -> 
     let table = bytes_at(body, fields, 0);
     let got = of_written(encode::write(table, cells, out));
     let same = check::same(out, bytes_at(body, fields, 6));
-    match settled(first_difference(body, fields, 3, &got), 3, same) {
+    match compare(body, fields, 3, &got, same) {
         Outcome::Same => compare_size(body, fields, cells, out.len()),
         other => other,
     }
@@ -297,7 +289,7 @@ fn compare_append(body: &[u8], fields: Fields, cells: &[u64], buffer: &mut [u8])
     let k = number_at(body, fields, 3);
     let got = of_written(encode_append::append(table, buffer, used, k, cells));
     let same = check::same(buffer, bytes_at(body, fields, 8));
-    settled(first_difference(body, fields, 5, &got), 3, same)
+    compare(body, fields, 5, &got, same)
 }
 
 fn run_append(body: &[u8], fields: Fields) -> Outcome {

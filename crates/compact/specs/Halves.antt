@@ -23,17 +23,19 @@ said Prefix = prefix
 said Range = range
 
 -- an answer by its fields: its number, and 0 in each other field of a refusal
+-- (the place is where the bytes start)
 pub record Fields : Type 0 where
   pub number : ℕ
+  pub place : ℕ
   pub low : ℕ
   pub high : ℕ
   pub used : ℕ
 
 abbrev refused : ℕ → Fields
-refused n = record { number = n; low = 0; high = 0; used = 0 }
+refused n = record { number = n; place = 0; low = 0; high = 0; used = 0 }
 
 abbrev pub fields : Reading → Fields
-fields (Value low high used) = record { number = 0; low = low; high = high; used = used }
+fields (Value low high used) = record { number = 0; place = 0; low = low; high = high; used = used }
 fields Short = refused 10
 fields Prefix = refused 12
 fields Range = refused 13

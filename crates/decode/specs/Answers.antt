@@ -8,7 +8,7 @@ use lib.ListN.{length}
 use Rattle.rules.specs.Basics.{onto}
 use Rattle.rules.specs.Cells.{cells}
 use Rattle.rules.specs.Demands.{front-accepts, front-accepted, front-cells, whole-accepts, whole-accepted, front-wider, whole-wider, cut-wider, front-grown, Decided, front-decided, whole-decided}
-use Rattle.rules.specs.Jobs.{readFront, readWhole, cutTo, cellsAfter}
+use Rattle.rules.specs.Jobs.{readFront, readWhole, cutTo, cellsAfter, readFields}
 use Rattle.rules.specs.Parser.{Res, got, bad}
 use Rattle.rules.specs.Scan.{scan, scanned}
 use Rattle.rules.specs.Scan.Accept.{Accepted, answer, passed}
@@ -17,6 +17,7 @@ use Rattle.rules.specs.Scan.Refuse.{scan-refuses, scan-reads}
 use Rattle.rules.specs.Scan.Steady.{ByLimit, scanned-wider, Short, scanned-grown}
 use Rattle.rules.specs.Table.{root, checkTable, afterCheck}
 use Rattle.rules.specs.Table.Laws.{Good}
+use Rattle.rules.specs.Totals.{nesting, charge}
 use Rattle.rules.specs.Types.{Val}
 use Rattle.rules.specs.Wire.{read}
 use Rattle.rules.specs.declared.Check.{Check}
@@ -45,6 +46,11 @@ one-reading f tb s lim l r r′ m m′ c d =
 pub refusal-leaves : (f : List ℕ → List ℕ → Limits → Scan) (tb s : List ℕ) (lim : Limits) (l : List ℕ) (r : Scan) (m : List ℕ) (y : Refusal) → Contract f tb s lim l r m → r ≡ stopped y → m ≡ l
 refusal-leaves f tb s lim l r m y c e = c .writes ∙ ap (λ x. cellsAfter (scanned (root tb) (cutTo (length l) lim) s) x l) e
 
+-- .. and has number and place, with 0 in every other field
+pub refusal-fields : (f : List ℕ → List ℕ → Limits → Scan) (tb s : List ℕ) (lim : Limits) (l : List ℕ) (r : Scan) (m : List ℕ) (y : Refusal) → Contract f tb s lim l r m → r ≡ stopped y
+    → readFields r ≡ record { number = y .number; place = y .place; bytes = 0; cells = 0; charge = 0; depth = 0 }
+refusal-fields f tb s lim l r m y c e = ap readFields e
+
 module _ (tb s : List ℕ) (lim : Limits) (l : List ℕ) (r : Scan) (m : List ℕ) (M : lim .memory < 2 ^ 64) where
   -- DEMAND 3: accepted exactly if ..; then the value's cells stand at the front of the lent ones, and the others stay
   pub read-accepts : Contract readFront tb s lim l r m → Good tb → (v : Val (root tb)) (n : ℕ) → Accepted (root tb) (cutTo (length l) lim) s v n
@@ -53,6 +59,11 @@ module _ (tb s : List ℕ) (lim : Limits) (l : List ℕ) (r : Scan) (m : List �
       let e : readFront tb s (cutTo (length l) lim) ≡ done (answer (root tb) v) n = front-accepts tb s (cutTo (length l) lim) M g v n a in
       let q : r ≡ done (answer (root tb) v) n = c .answers ∙ e in
       (q, c .writes ∙ ap (λ x. cellsAfter (scanned (root tb) (cutTo (length l) lim) s) x l) q ∙ ap (λ x. onto x l) (front-cells tb s (cutTo (length l) lim) (answer (root tb) v) n v n e (a .reads)))
+
+  -- the whole value's bytes, cells, charge and nesting stand in the answer
+  pub read-fields : Contract readFront tb s lim l r m → Good tb → (v : Val (root tb)) (n : ℕ) → Accepted (root tb) (cutTo (length l) lim) s v n
+      → readFields r ≡ record { number = 0; place = 0; bytes = n; cells = length (cells (root tb) v); charge = charge (root tb) v; depth = nesting (root tb) v }
+  read-fields c g v n a = ap readFields (read-accepts c g v n a .0)
 
   pub read-accepted : Contract readFront tb s lim l r m → (u : Totals) (n : ℕ) → r ≡ done u n
       → Good tb × ((v : Val (root tb)) × Accepted (root tb) (cutTo (length l) lim) s v n × (u ≡ answer (root tb) v) × (m ≡ onto (cells (root tb) v) l))

@@ -1,10 +1,11 @@
 -- Demands 1 and 2 about the public functions' own answers: r is any answer that the contract allows, and m what the lent output is afterwards.
 use mathlib.Core.Bool.{Bool, true, false}
-use mathlib.Core.List.{List}
+use mathlib.Core.List.{List, _++_, [], append-nil}
 use mathlib.Core.Logic.{_⊎_}
 use mathlib.Core.Option.{none, some, Option}
 use mathlib.Core.Path.{_≡_, refl, ap, sym, _∙_, subst}
 use Prim.Native.Nat.{ℕ, _-_, _^_, _≤_, _<_}
+use native.Mathlib.Nat.{le-refl}
 use native.Mathlib.Omega.{arith}
 use borrow.Author.Tests.{ltb-true, ltb-false, lt-ltb, le-ltb}
 use lib.Dec.{ltb}
@@ -13,10 +14,10 @@ use Rattle.rules.specs.Basics.{pick, Under, onto}
 use Rattle.rules.specs.Cells.{cells, unpack}
 use Rattle.rules.specs.Demands.{front-accepts, front-accepted, front-cells, output-writes, Wrote, output-wrote}
 use Rattle.rules.specs.Form.Laws.{reads}
-use Rattle.rules.specs.Jobs.{readFront, Output, wrote, not, fitted, putOut, output, writeCells, writtenOf, outputAfter}
+use Rattle.rules.specs.Jobs.{readFront, Output, wrote, not, fitted, putOut, output, writeCells, writtenOf, outputAfter, writtenFields}
 use Rattle.rules.specs.Parser.{Res, got, bad}
 use Rattle.rules.specs.Refusals.{outputSmall, cellsLeftAt}
-use Rattle.rules.specs.RoundTrip.{read-written, Back, written-back}
+use Rattle.rules.specs.RoundTrip.{read-written, Back, written-back, unpack-cells}
 use Rattle.rules.specs.Scan.{scanned}
 use Rattle.rules.specs.Scan.Accept.{Accepted, answer}
 use Rattle.rules.specs.Table.{root, checkTable, afterCheck, asLongest, longestOf}
@@ -187,6 +188,11 @@ module _ (tb cs out : List ℕ) (r : Written) (m : List ℕ) (c : Contract (writ
           let q = front-accepts tb m lim memory g v n a in
           (q, front-cells tb m lim (answer (root tb) v) n v n q reads ∙ W .given)
 
+-- DEMAND 1: a refusal has number and place, with 0 in every other field
+pub refusal-fields : (o : Output) (out : List ℕ) (r : Written) (m : List ℕ) (y : Refusal) → Contract o out r m → r ≡ notWritten y
+    → writtenFields r ≡ record { number = y .number; place = y .place; bytes = 0; cells = 0; charge = 0; depth = 0 }
+refusal-fields o out r m y c e = ap writtenFields e
+
 -- ---- the size: it tells the room that a write needs
 
 pub size-tells : (tb cs out : List ℕ) (q r : Written) (m : List ℕ) (n : ℕ) → Under (2 ^ 64) cs → q ≡ writtenOf (writeCells tb cs (2 ^ 64 - 1)) → q ≡ wroteBytes n → n ≤ length out
@@ -203,3 +209,21 @@ size-tells tb cs out q r m n u e f h c = go (writeCells tb cs (2 ^ 64 - 1)) refl
         let v = o .0 in
         let b : length (encode (root tb) v) ≡ n = sym (ap length (o .1 .bytes)) ∙ z1 in
         write-accepts tb cs out r m c (check-good tb g) v (o .1 .fits) (o .1 .given) (subst (λ x. x ≤ length out) (sym b) h) .0 ∙ ap wroteBytes b
+
+-- .. and with less room it is 22
+pub size-asks : (tb cs out : List ℕ) (q r : Written) (m : List ℕ) (n : ℕ) → Under (2 ^ 64) cs → q ≡ writtenOf (writeCells tb cs (2 ^ 64 - 1)) → q ≡ wroteBytes n → length out < n
+    → Contract (writeCells tb cs (length out)) out r m → r ≡ notWritten outputSmall
+size-asks tb cs out q r m n u e f h c = go (writeCells tb cs (2 ^ 64 - 1)) refl
+  where
+    go : (o : Output) → writeCells tb cs (2 ^ 64 - 1) ≡ o → r ≡ notWritten outputSmall
+    go (not y) k = absurd (let z0 : notWritten y ≡ wroteBytes n = sym (ap writtenOf k) ∙ sym e ∙ f in let z : _≡_ {A = ℕ} 0 1 = cc in omega arith)
+    go (wrote l) k =
+        let z0 : wroteBytes (length l) ≡ wroteBytes n = sym (ap writtenOf k) ∙ sym e ∙ f in
+        let z1 : length l ≡ n = cc in
+        let g = fine-of tb cs (2 ^ 64 - 1) l k in
+        let o = output-wrote (root tb) cs (2 ^ 64 - 1) l u (sym (at-root tb cs (2 ^ 64 - 1) g) ∙ k) in
+        let v = o .0 in
+        let b : length (encode (root tb) v) ≡ n = sym (ap length (o .1 .bytes)) ∙ z1 in
+        let taken : unpack (root tb) 0 cs ≡ got v (length cs) =
+        subst (λ x. unpack (root tb) 0 x ≡ got v (length x)) (append-nil (cells (root tb) v) ∙ o .1 .given) (subst (λ k. unpack (root tb) 0 (cells (root tb) v ++ []) ≡ got v k) (sym (ap length (append-nil (cells (root tb) v)))) (unpack-cells (root tb) v (o .1 .fits) 0 [])) in
+        write-refuses tb cs out r m c outputSmall (byRoom g v (length cs) taken (le-refl (length cs)) (subst (λ x. length out < x) (sym b) h) refl) .0

@@ -1,5 +1,4 @@
 -- Demands 1 and 2 about append's own answers: r is any answer that the contract allows, and m what the buffer is afterwards.
--- that any two answers are equal, that a refusal leaves the buffer, and that the bytes past what is written stay, is said there once for every job that writes
 use mathlib.Core.Bool.{Bool, true, false}
 use mathlib.Core.List.{List, _++_, [], _∷_}
 use mathlib.Core.Path.{_≡_, refl, ap, sym, _∙_, ap₂, subst}
@@ -31,7 +30,7 @@ use Rattle.rules.specs.declared.Refusal.{Refusal}
 use Rattle.rules.specs.declared.Width.the-variants.{W4 as w4}
 use Rattle.rules.specs.declared.Written.{Written}
 use Rattle.rules.specs.declared.Written.the-variants.{Bytes as wroteBytes, Refused as notWritten}
--- that any two answers are equal, that a refusal leaves the buffer, and that the bytes past what is written stay, is said there once for every job that writes
+-- that any two answers are equal, that a refusal leaves the buffer, and that the bytes past what is written stay, is said once for every job that writes:
 pub use Rattle.encode.specs.Answers.{Contract, one-writing, refusal-leaves, written-front}
 
 -- ---- when an append is refused

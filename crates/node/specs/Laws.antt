@@ -41,7 +41,7 @@ node-is tb g i h q n e f =
     let k : nodeAt tb i ≡ n = sym (node-good tb g i h) ∙ sym e ∙ f in
     (type-node tb g i h ∙ ap (build (tyAt tb)) k, subst (Below i) k (g .nodes i h))
 
--- what the last arm of a match knows that has an arm for vectors: the number of the node's kind is another than a vector's, which is 5
+-- what the last arm of a match knows that has an arm for vectors: the node is another case of the enum than a vector, which is case 5
 pub no-vector : {A : Type 0} (f : Ty → A) (a : A) (g : ℕ → Ty) (kind : Node → ℕ) → ((i : ℕ) → kind (vectorNode i) ≡ 5)
     → (q : Node) → OneOf (0 ∷ 1 ∷ 2 ∷ 3 ∷ 4 ∷ 6 ∷ 7 ∷ []) (kind q) → ofVector f a (build g q) ≡ a
 no-vector f a g kind e (leafNode k) h = refl

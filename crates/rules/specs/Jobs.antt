@@ -12,6 +12,8 @@ use Rattle.rules.specs.Wire.{leafBytes, encode, leafFrom}
 use Rattle.rules.specs.Cells.{unpack}
 use Rattle.rules.specs.Scan.{Limits, Scan, done, stopped, scan, scanAll}
 use Rattle.rules.specs.Table.{Check, fine, wrong, root, checkTable, afterCheck}
+use Rattle.rules.specs.declared.Longest.{Longest}
+use Rattle.rules.specs.declared.Longest.the-variants.{Bytes as atMost, Unbounded as unbounded, Refused as noLongest}
 pub use Rattle.rules.specs.declared.Written.{Written}
 pub use Rattle.rules.specs.declared.Written.the-variants.{Bytes as wroteBytes, Refused as notWritten}
 
@@ -55,7 +57,7 @@ output t cs room = putOut (length cs) room (encode t) (unpack t 0 cs)
 unfoldable pub writeCells : List ℕ → List ℕ → ℕ → Output
 writeCells tb cs room = afterCheck (checkTable tb) not (output (root tb) cs room)
 
--- k items of a root that is a vector, without its head
+-- what a root that is a vector is asked for, and another answer for any other
 abbrev pub ofVector : {A : Type 0} → (Ty → A) → A → Ty → A
 ofVector f a (vector t) = f t
 ofVector f a (leaf l) = a
@@ -65,6 +67,7 @@ ofVector f a (pair t u) = a
 ofVector f a (array n t) = a
 ofVector f a bits = a
 
+-- k items of a root that is a vector, without its head
 unfoldable pub writeItems : List ℕ → ℕ → List ℕ → ℕ → Output
 writeItems tb k cs room = afterCheck (checkTable tb) not (ofVector (λ t. output (array k t) cs room) (not appendRoot) (root tb))
 
@@ -120,11 +123,24 @@ abbrev pub readFields : Scan → Fields
 readFields (done st n) = record { number = 0; place = 0; bytes = n; cells = st .cells; charge = st .charge; depth = st .depth }
 readFields (stopped y) = refusedFields y
 
--- (writing and append answer number, place and bytes; the check number and place)
+-- writing and append answer number, place and bytes
 abbrev pub writtenFields : Written → Fields
 writtenFields (wroteBytes n) = record { number = 0; place = 0; bytes = n; cells = 0; charge = 0; depth = 0 }
 writtenFields (notWritten y) = refusedFields y
 
+-- the check answers number and place
 abbrev pub checkFields : Check → Fields
 checkFields fine = refusedFields (because 0 0)
 checkFields (wrong y) = refusedFields y
+
+-- a longest length: whether there is one, and how many bytes
+pub record Length : Type 0 where
+  pub number : ℕ
+  pub place : ℕ
+  pub has : ℕ
+  pub bytes : ℕ
+
+abbrev pub longestFields : Longest → Length
+longestFields (atMost n) = record { number = 0; place = 0; has = 1; bytes = n }
+longestFields unbounded = record { number = 0; place = 0; has = 0; bytes = 0 }
+longestFields (noLongest y) = record { number = y .number; place = y .place; has = 0; bytes = 0 }

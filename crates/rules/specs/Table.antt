@@ -83,7 +83,7 @@ build f (vectorNode a) = vector (f a)
 build f bitsNode = bits
 build f unknown = nothing
 
--- the fuel is as large as a node's index can be
+-- the fuel is more than a node's index can be: 64
 unfoldable pub tyBy : List ℕ → ℕ → ℕ → Ty
 tyBy tb zero i = nothing
 tyBy tb (suc n) i = build (tyBy tb n) (nodeAt tb i)

@@ -1,5 +1,5 @@
 -- The types that a table denotes, as trees, and the values of a type. Everything else goes by recursion on `Ty`, and a table enters in `Table` only.
--- (`Ty` has a little more than tables denote: floats at every width and arrays of no items. No rule needs to tell them apart.)
+-- (`Ty` has a little more than tables denote: floats at every width, arrays of no items, and `nothing` by itself. No rule needs to tell them apart.)
 use mathlib.Core.Bool.{Bool}
 use mathlib.Core.List.{List}
 use mathlib.Core.Logic.{_⊎_, inl, inr}

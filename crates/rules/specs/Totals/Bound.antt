@@ -102,8 +102,8 @@ pub longest-twice : (t : Ty) → Twice (longest t) (foot t)
 unfolding longest foot
 longest-twice (leaf k) = leaf-foot k
 longest-twice nothing = lit≤ tt
-longest-twice (result t u) = join-twice (λ a b. 1 + max a b) (longest t) (longest u) (foot t) (foot u) (1 + (foot t + foot u)) (longest-twice t) (longest-twice u) (λ m n p q. omega arith)
-longest-twice (pair t u) = join-twice _+_ (longest t) (longest u) (foot t) (foot u) (foot t + foot u) (longest-twice t) (longest-twice u) (λ m n p q. omega arith)
+longest-twice (result t u) = join-twice (λ a b. 1 + max a b) (longest t) (longest u) (foot t) (foot u) _ (longest-twice t) (longest-twice u) (λ m n p q. omega arith)
+longest-twice (pair t u) = join-twice _+_ (longest t) (longest u) (foot t) (foot u) _ (longest-twice t) (longest-twice u) (λ m n p q. omega arith)
 longest-twice (array n t) = go (longest t) (longest-twice t)
   where
     go : (o : Option ℕ) → Twice o (foot t) → Twice (join _*_ (some n) o) (n * foot t)

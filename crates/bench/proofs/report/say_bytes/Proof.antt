@@ -6,10 +6,10 @@ use Rattle.bench.proofs.report.say_bytes.Statement.{statement}
 use Rattle.bench.proofs.report.say_bytes.Tie as tie
 
 abbrev Inv-loop : tie.InvT-loop
-Inv-loop bytes i₀ t4 i = Unit {0}
+Inv-loop bytes i₀ i = Unit {0}
 
 abbrev μ-loop : tie.MeasureT-loop
-μ-loop bytes i₀ t4 i = length bytes - i
+μ-loop bytes i₀ i = length bytes - i
 
 pub say-bytes-spec : {M : Type 1} → statement M
 say-bytes-spec =
@@ -21,9 +21,6 @@ say-bytes-spec =
     (λ c κs. search needs)
     (λ c. search needs)
     (λ c. search needs)
-    (λ c κs. search needs)
-    (λ c. search needs)
-    (λ c κs. search needs)
     (λ c κs. search needs)
     (λ c. search needs)
     (λ c. search needs)

@@ -1,18 +1,18 @@
--- `first_difference` asks for no field that there cannot be. Assumes nothing.
+-- `compare` asks for no field that there cannot be. Assumes nothing.
 use Prim.Native.Nat.{_-_}
 use borrow.Author.Needs.{needs}
 use lib.ListN.{length}
-use Rattle.cases.proofs.ops.first_difference.Statement.{statement}
-use Rattle.cases.proofs.ops.first_difference.Tie as tie
+use Rattle.cases.proofs.ops.compare.Statement.{statement}
+use Rattle.cases.proofs.ops.compare.Tie as tie
 
 abbrev Inv-loop : tie.InvT-loop
-Inv-loop body fields first got i₀ i = Unit {0}
+Inv-loop body fields first got memory i₀ i = Unit {0}
 
 abbrev μ-loop : tie.MeasureT-loop
-μ-loop body fields first got i₀ i = length got - i
+μ-loop body fields first got memory i₀ i = length got - i
 
-pub first-difference-spec : {M : Type 1} → statement M
-first-difference-spec =
+pub compare-spec : {M : Type 1} → statement M
+compare-spec =
     tie.close
     (tie.spec
     Inv-loop
@@ -20,6 +20,7 @@ first-difference-spec =
     (λ c. search needs)
     (λ c. search needs)
     (λ c κs. search needs)
+    (λ c. search needs)
     (λ c. search needs)
     (λ c. search needs)
     (λ c. search needs)

@@ -1,0 +1,1 @@
+// Reading and writing together. No function: the laws stand in specs/.
