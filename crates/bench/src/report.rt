@@ -56,7 +56,7 @@ fn more(n: u64) -> u64 {
 }
 
 impl Tally {
-    pub fn new() -> Self {
+    pub(crate) fn new() -> Self {
         Tally {
             plans: 0,
             differ: 0,
@@ -64,7 +64,7 @@ impl Tally {
     }
 
     // The end of a plan's line, and the plan counted.
-    pub fn with(self, same: bool) -> Self {
+    pub(crate) fn with(self, same: bool) -> Self {
         say(b"\n");
         Tally {
             plans: more(self.plans),
@@ -72,7 +72,7 @@ impl Tally {
         }
     }
 
-    pub fn print(self) {
+    pub(crate) fn print(self) {
         say_number(self.plans);
         say(b" plans, ");
         say_number(self.differ);

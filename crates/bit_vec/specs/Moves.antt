@@ -15,7 +15,6 @@ use Rattle.bit_vec.specs.declared.Moved.the-variants.{Took, Refused}
 use Rattle.bit_vec.specs.declared.Lanes.{Lanes}
 use Rattle.bit_vec.specs.declared.Lanes.the-variants.{Bytes, Short}
 
--- (the place where the bits' own bytes start plays no part)
 abbrev pub moved : Res (List Bool) → Moved
 moved (got v k) = Took k
 moved (bad y) = Refused y
@@ -24,6 +23,7 @@ abbrev pub stored : ℕ → List ℕ → ℕ → Res (List Bool) → List ℕ
 stored n cells at (got v k) = sets cells at (pack 64 (words64 n) v)
 stored n cells at (bad y) = cells
 
+-- (the place where the bits' own bytes start plays no part)
 unfoldable pub bitsRead : ℕ → ℕ → List ℕ → Moved
 bitsRead n start s = moved (lanesFrom n start start s)
 

@@ -31,7 +31,7 @@ pub record Fields : Type 0 where
   pub high : ℕ
   pub used : ℕ
 
-abbrev refused : ℕ → Fields
+abbrev pub refused : ℕ → Fields
 refused n = record { number = n; place = 0; low = 0; high = 0; used = 0 }
 
 abbrev pub fields : Reading → Fields

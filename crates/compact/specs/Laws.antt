@@ -1,7 +1,7 @@
 -- The law of the public answer: a number is read exactly if the bytes open with its encoding. Then what a caller knows of a value that was read.
 use mathlib.Core.List.{List}
 use mathlib.Core.Logic.{_↔_}
-use mathlib.Core.Path.{_≡_, ap, ap₂, sym, _∙_}
+use mathlib.Core.Path.{_≡_, refl, ap, ap₂, sym, _∙_}
 use Prim.Native.Nat.{ℕ, _+_, _*_, _/_, _%_, _^_, _≤_, _<_}
 use native.Mathlib.Nat.{add-comm, lt-of-lt-of-le}
 use native.Mathlib.Omega.{arith}
@@ -17,8 +17,8 @@ use Rattle.rules.specs.Compact.{Answer, value, short, prefix, range, compactFro
 use Rattle.rules.specs.Compact.Answers.{fits-lt}
 use Rattle.rules.specs.Compact.Law.{Opens, compact-took, compact-exactly}
 use Rattle.compact.specs.declared.Reading.{Reading}
-use Rattle.compact.specs.declared.Reading.the-variants.{Value}
-use Rattle.compact.specs.Halves.{whole, inHalves, said}
+use Rattle.compact.specs.declared.Reading.the-variants.{Value, Short, Prefix, Range}
+use Rattle.compact.specs.Halves.{whole, inHalves, said, fields, refused}
 
 -- ---- halves
 
@@ -56,6 +56,13 @@ pub read-exactly : (w : Width) (s : List ℕ) (low high used : ℕ) → Under 25
 read-exactly w s low high used u lt =
     let law = compact-exactly (size w) (whole low high) used s (omega (arith, size-le w)) u in
     (λ e. law .0 (said-back _ _ e), λ o. ap inHalves (law .1 o) ∙ in-halves low high used lt)
+
+-- an answer with a number has 0 in every other field
+pub refused-fields : (r : Reading) → 0 < fields r .number → fields r ≡ refused (fields r .number)
+refused-fields (Value low high used) h = absurd (omega arith)
+refused-fields Short h = refl
+refused-fields Prefix h = refl
+refused-fields Range h = refl
 
 -- ---- for callers
 

@@ -1,25 +1,27 @@
 -- Demands 1 and 3 about the public functions' own answers: r is any answer that the contract allows, and m what the lent cells l are afterwards.
+use mathlib.Core.Bool.{Bool, true, false}
 use mathlib.Core.List.{List, _++_}
 use mathlib.Core.Logic.{_⊎_, inl, inr, ⊎-elim}
 use mathlib.Core.Path.{_≡_, refl, ap, sym, _∙_, subst}
 use Prim.Native.Nat.{ℕ, _^_, _≤_, _<_}
 use native.Mathlib.Omega.{arith}
+use borrow.Author.Tests.{ltb-true, lt-ltb}
+use lib.Dec.{ltb}
 use lib.ListN.{length}
-use Rattle.rules.specs.Basics.{onto}
+use Rattle.rules.specs.Basics.{pick, onto}
 use Rattle.rules.specs.Cells.{cells}
-use Rattle.rules.specs.Demands.{front-accepts, front-accepted, front-cells, whole-accepts, whole-accepted, front-wider, whole-wider, cut-wider, front-grown, Decided, front-decided, whole-decided}
+use Rattle.rules.specs.Demands.{front-accepts, front-accepted, front-cells, whole-accepts, whole-accepted, front-wider, whole-wider, cut-wider, front-grown, Decided, front-decided, whole-decided, whole-fills}
 use Rattle.rules.specs.Jobs.{readFront, readWhole, cutTo, cellsAfter, readFields}
-use Rattle.rules.specs.Parser.{Res, got, bad}
-use Rattle.rules.specs.Scan.{scan, scanned}
+use Rattle.rules.specs.Refusals.{bytesLeftAt}
+use Rattle.rules.specs.Scan.{scan, scanned, filling}
 use Rattle.rules.specs.Scan.Accept.{Accepted, answer, passed}
-use Rattle.rules.specs.Scan.Barred.{Limit, Wider}
-use Rattle.rules.specs.Scan.Refuse.{scan-refuses, scan-reads}
+use Rattle.rules.specs.Scan.Barred.{Wider}
+use Rattle.rules.specs.Scan.Refuse.{Refuses, scan-refused, scan-refuses}
 use Rattle.rules.specs.Scan.Steady.{ByLimit, scanned-wider, Short, scanned-grown}
 use Rattle.rules.specs.Table.{root, checkTable, afterCheck}
 use Rattle.rules.specs.Table.Laws.{Good}
 use Rattle.rules.specs.Totals.{nesting, charge}
 use Rattle.rules.specs.Types.{Val}
-use Rattle.rules.specs.Wire.{read}
 use Rattle.rules.specs.declared.Check.{Check}
 use Rattle.rules.specs.declared.Check.the-variants.{Fine as fine, Refused as wrong}
 use Rattle.rules.specs.declared.Limits.{Limits}
@@ -93,34 +95,58 @@ module _ (tb s : List ℕ) (lim : Limits) (l : List ℕ) (r : Scan) (m : List �
       let k : m ≡ onto (scanned (root tb) (cutTo (length l) lim) s) l = c .writes ∙ ap (λ x. cellsAfter (scanned (root tb) (cutTo (length l) lim) s) x l) e in
       (w .0, (v, w .1 .1, w .1 .2, w .1 .3, k ∙ ap (λ x. onto x l) (passed (root tb) (cutTo (length l) lim) s v u (length s) n (w .1 .1 .reads) d)))
 
--- why a front read is refused: by the table's check, by a limit, or by the written rule, whose number and place it then has
-pub data Why (tb s : List ℕ) (y : Refusal) : Type 0 where
-  byTable : checkTable tb ≡ wrong y → Why tb s y
-  byLimit : checkTable tb ≡ fine → Limit y → Why tb s y
-  byRule : checkTable tb ≡ fine → read (root tb) 0 s ≡ bad y → Why tb s y
+-- why a front read is refused, both ways: by the table's check, or in the message, by a limit or by the written rule (`Scan.Refuse.Refuses`), whose number and place it then has
+pub data Why (tb s : List ℕ) (lim : Limits) (y : Refusal) : Type 0 where
+  byTable : checkTable tb ≡ wrong y → Why tb s lim y
+  inMessage : checkTable tb ≡ fine → Refuses (root tb) lim s y → Why tb s lim y
 
-pub read-refused : (tb s : List ℕ) (lim : Limits) (l : List ℕ) (r : Scan) (m : List ℕ) (y : Refusal) → Contract readFront tb s lim l r m → r ≡ stopped y → Why tb s y
-unfolding readFront ByLimit
-read-refused tb s lim l r m y c e = go (checkTable tb) refl (sym (c .answers) ∙ e)
+front-refused : (tb s : List ℕ) (lim : Limits) (y : Refusal) → readFront tb s lim ≡ stopped y → Why tb s lim y
+unfolding readFront
+front-refused tb s lim y e = go (checkTable tb) refl e
   where
-    C : Limits
-    C = cutTo (length l) lim
-
-    -- a scan that ended so
-    limited : (x : Scan) → x ≡ stopped y → ByLimit x → Limit y
-    limited x q b = subst ByLimit q b
-
-    by : checkTable tb ≡ fine → scan (root tb) C s ≡ stopped y → (x : Res (Val (root tb))) → read (root tb) 0 s ≡ x → Why tb s y
-    by f q (got v n) k =
-        ⊎-elim (λ b. byLimit f (limited (scan (root tb) C s) q b))
-        (λ d. absurd (let h : done (d .0) n ≡ stopped y = sym (d .1) ∙ q in let z : _≡_ {A = ℕ} 0 1 = cc in omega arith)) (scan-reads (root tb) C s v n k)
-    by f q (bad x) k =
-        ⊎-elim (λ b. byLimit f (limited (scan (root tb) C s) q b))
-        (λ d. let h : stopped x ≡ stopped y = sym d ∙ q in let j : x ≡ y = cc in byRule f (k ∙ ap bad j)) (scan-refuses (root tb) C s x k)
-
-    go : (x : Check) → checkTable tb ≡ x → afterCheck x stopped (scan (root tb) C s) ≡ stopped y → Why tb s y
-    go fine q f = by q f (read (root tb) 0 s) refl
+    go : (x : Check) → checkTable tb ≡ x → afterCheck x stopped (scan (root tb) lim s) ≡ stopped y → Why tb s lim y
+    go fine q f = inMessage q (scan-refused (root tb) lim s y f)
     go (wrong x) q f = let j : x ≡ y = cc in byTable (q ∙ ap wrong j)
+
+front-refuses : (tb s : List ℕ) (lim : Limits) (y : Refusal) → Why tb s lim y → readFront tb s lim ≡ stopped y
+unfolding readFront
+front-refuses tb s lim y (byTable q) = ap (λ (x : Check). afterCheck x stopped (scan (root tb) lim s)) q
+front-refuses tb s lim y (inMessage q f) = ap (λ (x : Check). afterCheck x stopped (scan (root tb) lim s)) q ∙ scan-refuses (root tb) lim s y f
+
+-- .. and a whole read: as its front is, or by 18 where the front is accepted and bytes are left
+pub data WhyWhole (tb s : List ℕ) (lim : Limits) (y : Refusal) : Type 0 where
+  atFront : Why tb s lim y → WhyWhole tb s lim y
+  byRest : (u : Totals) (n : ℕ) → readFront tb s lim ≡ done u n → n < length s → y ≡ bytesLeftAt n → WhyWhole tb s lim y
+
+filling-refused : (tb s : List ℕ) (lim : Limits) (y : Refusal) → filling s (readFront tb s lim) ≡ stopped y → WhyWhole tb s lim y
+unfolding filling
+filling-refused tb s lim y e = go (readFront tb s lim) refl e
+  where
+    left : (u : Totals) (n : ℕ) → readFront tb s lim ≡ done u n → (b : Bool) → ltb n (length s) ≡ b → pick b (stopped (bytesLeftAt n)) (done u n) ≡ stopped y → WhyWhole tb s lim y
+    left u n q true t k = let z : bytesLeftAt n ≡ y = cc in byRest u n q (ltb-true n (length s) t) (sym z)
+    left u n q false t k = absurd (let z : _≡_ {A = ℕ} 0 1 = cc in omega arith)
+
+    go : (x : Scan) → readFront tb s lim ≡ x → filling s x ≡ stopped y → WhyWhole tb s lim y
+    go (done u n) q f = left u n q (ltb n (length s)) refl f
+    go (stopped x) q f = atFront (front-refused tb s lim y (q ∙ f))
+
+filling-refuses : (tb s : List ℕ) (lim : Limits) (y : Refusal) → WhyWhole tb s lim y → filling s (readFront tb s lim) ≡ stopped y
+unfolding filling
+filling-refuses tb s lim y (atFront w) = ap (filling s) (front-refuses tb s lim y w)
+filling-refuses tb s lim y (byRest u n q h k) = ap (filling s) q ∙ rw (lt-ltb n (length s) h, k)
+
+module _ (tb s : List ℕ) (lim : Limits) (l : List ℕ) (r : Scan) (m : List ℕ) (y : Refusal) where
+  pub read-refused : Contract readFront tb s lim l r m → r ≡ stopped y → Why tb s (cutTo (length l) lim) y
+  read-refused c e = front-refused tb s (cutTo (length l) lim) y (sym (c .answers) ∙ e)
+
+  pub read-refuses : Contract readFront tb s lim l r m → Why tb s (cutTo (length l) lim) y → r ≡ stopped y
+  read-refuses c w = c .answers ∙ front-refuses tb s (cutTo (length l) lim) y w
+
+  pub whole-read-refused : Contract readWhole tb s lim l r m → r ≡ stopped y → WhyWhole tb s (cutTo (length l) lim) y
+  whole-read-refused c e = filling-refused tb s (cutTo (length l) lim) y (sym (whole-fills tb s (cutTo (length l) lim)) ∙ sym (c .answers) ∙ e)
+
+  pub whole-read-refuses : Contract readWhole tb s lim l r m → WhyWhole tb s (cutTo (length l) lim) y → r ≡ stopped y
+  whole-read-refuses c w = c .answers ∙ whole-fills tb s (cutTo (length l) lim) ∙ filling-refuses tb s (cutTo (length l) lim) y w
 
 -- DEMAND 3: larger limits and more lent cells change only a refusal by a limit; what is accepted stays so, with the same totals and bytes, and the same cells are new
 abbrev Job : Type 0

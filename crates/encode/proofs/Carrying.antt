@@ -10,15 +10,16 @@ use lib.ListN.{length}
 use Rattle.rules.specs.Basics.{pick}
 use Rattle.rules.specs.Jobs.{wrote, not, putOut, writtenOf}
 use Rattle.rules.specs.Parser.{Res, got, bad}
+use Rattle.rules.specs.Put.{putOf}
 use Rattle.rules.specs.Refusals.{outputSmall, cellsLeftAt}
+use Rattle.rules.specs.declared.Put.{Put}
+use Rattle.rules.specs.declared.Put.the-variants.{Done as putDone, Refused as putNot}
 use Rattle.rules.specs.declared.Refusal.{Refusal}
 use Rattle.rules.specs.declared.Written.{Written}
 use Rattle.rules.specs.declared.Written.the-variants.{Bytes as wroteBytes, Refused as notWritten}
 use Rattle.put.specs.Laws.{part-in}
-use Rattle.put.specs.Written.{putOf, partIn, partOut}
+use Rattle.put.specs.Written.{partIn, partOut}
 use Rattle.put.specs.declared.Part.{Part}
-use Rattle.put.specs.declared.Put.{Put}
-use Rattle.put.specs.declared.Put.the-variants.{Done as putDone, Refused as putNot}
 use Rattle.encode.specs.Settled.{settledOf}
 
 -- 23 and 22, after what was put

@@ -195,35 +195,31 @@ refusal-fields o out r m y c e = ap writtenFields e
 
 -- ---- the size: it tells the room that a write needs
 
-pub size-tells : (tb cs out : List ℕ) (q r : Written) (m : List ℕ) (n : ℕ) → Under (2 ^ 64) cs → q ≡ writtenOf (writeCells tb cs (2 ^ 64 - 1)) → q ≡ wroteBytes n → n ≤ length out
-    → Contract (writeCells tb cs (length out)) out r m → r ≡ wroteBytes n
-size-tells tb cs out q r m n u e f h c = go (writeCells tb cs (2 ^ 64 - 1)) refl
+-- the value that it is the size of
+measured : (tb cs : List ℕ) (q : Written) (n : ℕ) → Under (2 ^ 64) cs → q ≡ writtenOf (writeCells tb cs (2 ^ 64 - 1)) → q ≡ wroteBytes n
+    → (v : Val (root tb)) × (checkTable tb ≡ fine) × (Fits (root tb) v) × (cells (root tb) v ≡ cs) × (length (encode (root tb) v) ≡ n)
+measured tb cs q n u e f = go (writeCells tb cs (2 ^ 64 - 1)) refl
   where
-    go : (o : Output) → writeCells tb cs (2 ^ 64 - 1) ≡ o → r ≡ wroteBytes n
+    go : (o : Output) → writeCells tb cs (2 ^ 64 - 1) ≡ o → (v : Val (root tb)) × (checkTable tb ≡ fine) × (Fits (root tb) v) × (cells (root tb) v ≡ cs) × (length (encode (root tb) v) ≡ n)
     go (not y) k = absurd (let z0 : notWritten y ≡ wroteBytes n = sym (ap writtenOf k) ∙ sym e ∙ f in let z : _≡_ {A = ℕ} 0 1 = cc in omega arith)
     go (wrote l) k =
         let z0 : wroteBytes (length l) ≡ wroteBytes n = sym (ap writtenOf k) ∙ sym e ∙ f in
         let z1 : length l ≡ n = cc in
         let g = fine-of tb cs (2 ^ 64 - 1) l k in
         let o = output-wrote (root tb) cs (2 ^ 64 - 1) l u (sym (at-root tb cs (2 ^ 64 - 1) g) ∙ k) in
-        let v = o .0 in
-        let b : length (encode (root tb) v) ≡ n = sym (ap length (o .1 .bytes)) ∙ z1 in
-        write-accepts tb cs out r m c (check-good tb g) v (o .1 .fits) (o .1 .given) (subst (λ x. x ≤ length out) (sym b) h) .0 ∙ ap wroteBytes b
+        (o .0, g, o .1 .fits, o .1 .given, sym (ap length (o .1 .bytes)) ∙ z1)
+
+pub size-tells : (tb cs out : List ℕ) (q r : Written) (m : List ℕ) (n : ℕ) → Under (2 ^ 64) cs → q ≡ writtenOf (writeCells tb cs (2 ^ 64 - 1)) → q ≡ wroteBytes n → n ≤ length out
+    → Contract (writeCells tb cs (length out)) out r m → r ≡ wroteBytes n
+size-tells tb cs out q r m n u e f h c =
+    let (v, g, fits, given, b) = measured tb cs q n u e f in
+    write-accepts tb cs out r m c (check-good tb g) v fits given (subst (λ x. x ≤ length out) (sym b) h) .0 ∙ ap wroteBytes b
 
 -- .. and with less room it is 22
 pub size-asks : (tb cs out : List ℕ) (q r : Written) (m : List ℕ) (n : ℕ) → Under (2 ^ 64) cs → q ≡ writtenOf (writeCells tb cs (2 ^ 64 - 1)) → q ≡ wroteBytes n → length out < n
     → Contract (writeCells tb cs (length out)) out r m → r ≡ notWritten outputSmall
-size-asks tb cs out q r m n u e f h c = go (writeCells tb cs (2 ^ 64 - 1)) refl
-  where
-    go : (o : Output) → writeCells tb cs (2 ^ 64 - 1) ≡ o → r ≡ notWritten outputSmall
-    go (not y) k = absurd (let z0 : notWritten y ≡ wroteBytes n = sym (ap writtenOf k) ∙ sym e ∙ f in let z : _≡_ {A = ℕ} 0 1 = cc in omega arith)
-    go (wrote l) k =
-        let z0 : wroteBytes (length l) ≡ wroteBytes n = sym (ap writtenOf k) ∙ sym e ∙ f in
-        let z1 : length l ≡ n = cc in
-        let g = fine-of tb cs (2 ^ 64 - 1) l k in
-        let o = output-wrote (root tb) cs (2 ^ 64 - 1) l u (sym (at-root tb cs (2 ^ 64 - 1) g) ∙ k) in
-        let v = o .0 in
-        let b : length (encode (root tb) v) ≡ n = sym (ap length (o .1 .bytes)) ∙ z1 in
-        let taken : unpack (root tb) 0 cs ≡ got v (length cs) =
-        subst (λ x. unpack (root tb) 0 x ≡ got v (length x)) (append-nil (cells (root tb) v) ∙ o .1 .given) (subst (λ k. unpack (root tb) 0 (cells (root tb) v ++ []) ≡ got v k) (sym (ap length (append-nil (cells (root tb) v)))) (unpack-cells (root tb) v (o .1 .fits) 0 [])) in
-        write-refuses tb cs out r m c outputSmall (byRoom g v (length cs) taken (le-refl (length cs)) (subst (λ x. length out < x) (sym b) h) refl) .0
+size-asks tb cs out q r m n u e f h c =
+    let (v, g, fits, given, b) = measured tb cs q n u e f in
+    let taken : unpack (root tb) 0 cs ≡ got v (length cs) =
+    subst (λ x. unpack (root tb) 0 x ≡ got v (length x)) (append-nil (cells (root tb) v) ∙ given) (subst (λ k. unpack (root tb) 0 (cells (root tb) v ++ []) ≡ got v k) (sym (ap length (append-nil (cells (root tb) v)))) (unpack-cells (root tb) v fits 0 [])) in
+    write-refuses tb cs out r m c outputSmall (byRoom g v (length cs) taken (le-refl (length cs)) (subst (λ x. length out < x) (sym b) h) refl) .0

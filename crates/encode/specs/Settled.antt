@@ -3,10 +3,10 @@ use Prim.Native.Nat.{ℕ}
 use lib.Dec.{ltb}
 use Rattle.rules.specs.Basics.{pick}
 use Rattle.rules.specs.Refusals.{outputSmall, cellsLeftAt}
+use Rattle.rules.specs.declared.Put.{Put}
+use Rattle.rules.specs.declared.Put.the-variants.{Done as putDone, Refused as putNot}
 use Rattle.rules.specs.declared.Written.{Written}
 use Rattle.rules.specs.declared.Written.the-variants.{Bytes as wroteBytes, Refused as notWritten}
-use Rattle.put.specs.declared.Put.{Put}
-use Rattle.put.specs.declared.Put.the-variants.{Done as putDone, Refused as putNot}
 
 -- 23 and then 22
 unfoldable pub settledOf : ℕ → ℕ → Put → Written

@@ -7,8 +7,8 @@ ghost use Rattle.rules.specs.Jobs.{writeCells, writeItems, writtenOf, outputAft
 ghost use Rattle.put.specs.Written.{partOut};
 ghost use Rattle.encode.specs.Settled.{settledOf};
 use put::Part;
-use put::Put;
 use put::put_part;
+use rules::Put;
 use rules::Refusal;
 use rules::Written;
 

@@ -2,7 +2,7 @@
 // past the end of what was lent is not written: so one walker decides, with none lent, and then fills.
 ghost use mathlib.Core.Path.{_≡_};
 ghost use mathlib.Core.List.{[], _∷_};
-ghost use Prim.Native.Nat.{_+_, _-_, _*_, _≤_, _<_, _^_, max};
+ghost use Prim.Native.Nat.{_+_, _-_, _*_, max};
 ghost use lib.ListN.{set};
 ghost use lib.Seq.{sets};
 ghost use Rattle.rules.specs.Refusals.{because};
@@ -161,8 +161,8 @@ pub fn enter(
     )
 }
 
-// Passes n times as many units as `more` and one: as many as there is room for, by a product that cannot wrap and not by a walk. `more` stands for 2^64 - 1
-// units and more where it is that.
+// Passes n times as many units as `more` and one: as many as there is room for, by a product that cannot wrap and not by a walk. A caller gives 2^64 - 1
+// for `more` also where there are more than 2^64.
 pub fn pass_units(m: Meter, at: usize, n: u64, more: u64, cells: &mut [u64]) -> Scan
     ensures answers { λ r. ⌜ r ≡ unitsAt (m .limits) (m .totals) at (n * (more + 1)) .answer ⌝ }
     ensures writes { λ _. ⌜ now (cells .exit) ≡ landed (now (cells .entry)) (m .totals) (unitsAt (m .limits) (m .totals) at (n * (more + 1))) ⌝ }

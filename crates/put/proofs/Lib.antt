@@ -1,5 +1,4 @@
 pub mod Putting
-pub mod Leaves
-pub mod Lanes
+pub mod Placing
 pub mod Walking
 pub mod Parts

@@ -11,7 +11,7 @@ use Rattle.rules.specs.Basics.{pick, Under}
 use Rattle.rules.specs.Jobs.{wrote, not, fitted, putOut, ofVector, outputAfter}
 use Rattle.rules.specs.Parser.{Res, got, bad}
 use Rattle.rules.specs.Places.{sets-onto}
-use Rattle.rules.specs.Put.{put}
+use Rattle.rules.specs.Put.{put, putOf}
 use Rattle.rules.specs.Refusals.{outputSmall, cellsLeftAt, appendRoot}
 use Rattle.rules.specs.Table.{count, nodeIn, build, tyAt, root, checkTable}
 use Rattle.rules.specs.Table.Laws.{check-good}
@@ -19,15 +19,15 @@ use Rattle.rules.specs.Types.{array}
 use Rattle.rules.specs.declared.Check.the-variants.{Fine as fine, Refused as wrong}
 use Rattle.rules.specs.declared.Node.{Node}
 use Rattle.rules.specs.declared.Node.the-variants.{Vector as vectorNode}
+use Rattle.rules.specs.declared.Put.{Put}
+use Rattle.rules.specs.declared.Put.the-variants.{Done as putDone, Refused as putNot}
 use Rattle.rules.specs.declared.Refusal.{Refusal}
 use Rattle.node.specs.Laws.{node-is, no-vector}
 use Rattle.put.proofs.Putting.{Putting, same-put}
 use Rattle.put.specs.Laws.{in-fine, in-refused, part-in}
-use Rattle.put.specs.Written.{putOf, Landed, Puttable, partPut, partIn, partOut}
+use Rattle.put.specs.Written.{Landed, Puttable, partPut, partIn, partOut}
 use Rattle.put.specs.declared.Part.{Part}
 use Rattle.put.specs.declared.Part.the-variants.{Root as wholeRoot, Items as rootItems}
-use Rattle.put.specs.declared.Put.{Put}
-use Rattle.put.specs.declared.Put.the-variants.{Done as putDone, Refused as putNot}
 
 -- ---- a part of the root
 

@@ -1,18 +1,17 @@
 -- One part behind another: from what the parts answer and leave to what the whole does.
 use mathlib.Core.List.{List, _++_}
-use mathlib.Core.Path.{_≡_, refl, ap, sym, _∙_, ap₂, subst}
+use mathlib.Core.Path.{_≡_, refl, sym, _∙_, ap₂, subst}
 use Prim.Native.Nat.{ℕ, _+_}
 use native.Mathlib.Omega.{arith}
 use lib.ListN.{length, length-append}
 use lib.Seq.{sets}
-use Rattle.rules.specs.Compact.{value}
 use Rattle.rules.specs.Parser.{Res, got, bad, more, next, mapRes}
 use Rattle.rules.specs.Places.{sets-join}
-use Rattle.rules.specs.Put.{ahead}
+use Rattle.rules.specs.Put.{ahead, putOf}
+use Rattle.rules.specs.declared.Put.{Put}
+use Rattle.rules.specs.declared.Put.the-variants.{Done as putDone, Refused as putNot}
 use Rattle.rules.specs.declared.Refusal.{Refusal}
-use Rattle.put.specs.Written.{putOf, Landed}
-use Rattle.put.specs.declared.Put.{Put}
-use Rattle.put.specs.declared.Put.the-variants.{Done as putDone, Refused as putNot}
+use Rattle.put.specs.Written.{Landed}
 
 -- what a writer of P answers and leaves
 abbrev pub Putting : ℕ → ℕ → Res (List ℕ) → List ℕ → Put → List ℕ → Type 0
@@ -21,16 +20,6 @@ Putting at pos P out r m = (r ≡ putOf at pos P) × Landed pos P out m
 -- the same, for what is equal
 pub same-put : (at pos : ℕ) (P Q : Res (List ℕ)) (out m : List ℕ) (r : Put) → P ≡ Q → Putting at pos Q out r m → Putting at pos P out r m
 same-put at pos P Q out m r e h = subst (λ x. Putting at pos x out r m) (sym e) h
-
--- a value that is refused, and one whose bytes were put
-module _ {A : Type 0} (f : A → List ℕ) (at pos : ℕ) (out m : List ℕ) where
-  pub none-put : (R : Res A) (y : Refusal) → R ≡ bad y → Putting at pos (mapRes f R) out (putNot y) m
-  unfolding mapRes putOf
-  none-put R y e = subst (λ x. Putting at pos (mapRes f x) out (putNot y) m) (sym e) (refl, tt)
-
-  pub all-put : (R : Res A) (v : A) (n used : ℕ) → R ≡ got v n → used ≡ length (f v) → m ≡ sets out pos (f v) → Putting at pos (mapRes f R) out (putDone (at + n) (pos + used)) m
-  unfolding mapRes putOf
-  all-put R v n used e q h = subst (λ x. Putting at pos (mapRes f x) out (putDone (at + n) (pos + used)) m) (sym e) (ap (λ x. putDone (at + n) (pos + x)) q, h)
 
 -- a first part that was put, up to cell c and byte e: its value, and what it left
 pub record Gone {A : Type 0} (f : A → List ℕ) (at pos : ℕ) (out m : List ℕ) (R : Res A) (c e : ℕ) : Type 0 where

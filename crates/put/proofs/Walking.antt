@@ -11,7 +11,7 @@ use Rattle.rules.specs.Bytes.Laws.{under-drop}
 use Rattle.rules.specs.Cells.{wide, one, halves, leafTaken, unpack}
 use Rattle.rules.specs.Parser.{Res, got, bad, Parser, mapRes}
 use Rattle.rules.specs.Places.{sets-length, part-rest}
-use Rattle.rules.specs.Put.{put, ahead, putLeaf, put-leaf, put-nothing, put-pair, put-none, put-more, put-vector, put-result, put-most}
+use Rattle.rules.specs.Put.{put, ahead, putLeaf, putOf, put-leaf, put-nothing, put-pair, put-none, put-more, put-vector, put-result, put-most}
 use Rattle.rules.specs.Refusals.{unfitAt}
 use Rattle.rules.specs.Table.{nodeIn, build, tyAt}
 use Rattle.rules.specs.Table.Laws.{Below}
@@ -20,13 +20,13 @@ use Rattle.rules.specs.Wire.{leafBytes, encode}
 use Rattle.rules.specs.declared.Leaf.{Leaf}
 use Rattle.rules.specs.declared.Leaf.the-variants.{Bool as bool, Compact as compact}
 use Rattle.rules.specs.declared.Node.{Node}
+use Rattle.rules.specs.declared.Put.{Put}
+use Rattle.rules.specs.declared.Put.the-variants.{Done as putDone, Refused as putNot}
 use Rattle.rules.specs.declared.Refusal.{Refusal}
 use Rattle.rules.specs.declared.Width.the-variants.{W4 as w4}
 use Rattle.node.specs.Laws.{node-is}
 use Rattle.put.proofs.Putting.{Putting, same-put, gone, stops, follows}
-use Rattle.put.specs.Written.{putOf, Puttable}
-use Rattle.put.specs.declared.Put.{Put}
-use Rattle.put.specs.declared.Put.the-variants.{Done as putDone, Refused as putNot}
+use Rattle.put.specs.Written.{Puttable}
 
 -- ---- what a part that was put leaves for the next
 

@@ -1,17 +1,18 @@
 // The walk over cells by a table, which puts their bytes. It goes over the cells twice: first with no output, to decide, and then, if all cells are taken and there
 // is room, with the lent one; so the output has all bytes of a part or none.
-mod bits;
-mod leaf;
+mod single;
 mod walk;
 
 ghost use mathlib.Core.Path.{_≡_};
 ghost use lib.ListN.{length};
 ghost use Rattle.rules.specs.Jobs.{outputAfter};
+ghost use Rattle.rules.specs.Put.{putOf};
+ghost use Rattle.rules.specs.Refusals.{because};
 ghost use Rattle.rules.specs.Table.{checkTable, root};
-ghost use Rattle.put.specs.Written.{putOf, Landed, partPut, partIn, partOut};
-use leaf::because;
+ghost use Rattle.put.specs.Written.{Landed, partPut, partIn, partOut};
 use rules::Check;
 use rules::Node;
+use rules::Put;
 use rules::Refusal;
 use walk::put_item;
 use walk::put_items;
@@ -22,10 +23,10 @@ pub enum Part {
     Items(u64),
 }
 
-// How far writing got: the index behind the last cell that was taken and behind the last byte that was put, or why it is refused.
-pub enum Put {
-    Done(usize, usize),
-    Refused(Refusal),
+fn because(number: u32, place: usize) -> Refusal
+    ensures { λ r. ⌜ r ≡ because number place ⌝ }
+{
+    Refusal { number, place }
 }
 
 // A part of what a checked table describes, from the first cell on and with its bytes from the first one on.

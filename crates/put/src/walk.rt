@@ -1,16 +1,16 @@
 // The writing walkers, over the cells as reading goes over bytes: the item writer calls the writer of the node's kind and is called back, with the table index
 // and the items left falling. Each item takes a cell or is refused, so work is bounded by the cells given, whatever a count says.
 ghost use mathlib.Core.Path.{_≡_};
-ghost use Rattle.rules.specs.Put.{put};
+ghost use Rattle.rules.specs.Put.{put, putOf};
 ghost use Rattle.rules.specs.Table.{tyAt};
 ghost use Rattle.rules.specs.Types.{array, option, result, pair, vector};
-ghost use Rattle.put.specs.Written.{Puttable, putOf, Landed};
-use crate::Put;
-use crate::bits::put_bits;
-use crate::leaf::because;
-use crate::leaf::put_leaf;
+ghost use Rattle.put.specs.Written.{Puttable, Landed};
+use crate::because;
+use crate::single::put_bits;
+use crate::single::put_leaf;
 use rules::Leaf;
 use rules::Node;
+use rules::Put;
 use rules::Width;
 
 // The item that node `node` of a checked table describes, whose cells start at index `at`, which is where cs starts, with its bytes from `pos` on.

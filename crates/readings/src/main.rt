@@ -74,7 +74,7 @@ fn stacked(first: u8, kind: u8) -> [u8; 262] {
     table
 }
 
-// Items without bytes are counted and not walked, so each of these answers at once.
+// Items without bytes are counted and not walked, so each of these ends, whatever it counts.
 fn bounded() {
     let all = 0xffff_ffff_ffff_ffff;
     // 2^32 - 1 units, and the count: there is room for all, just for all, for all but one, and for the count alone

@@ -38,7 +38,7 @@ fn more(n: u64) -> u64 {
 }
 
 impl Tally {
-    pub fn new() -> Self {
+    pub(crate) fn new() -> Self {
         Tally {
             going: true,
             cases: 0,
@@ -94,7 +94,7 @@ impl Tally {
     }
 
     // With what came at a place in the file.
-    pub fn with(self, index: u64, next: Next) -> Self {
+    pub(crate) fn with(self, index: u64, next: Next) -> Self {
         match next {
             Next::Same => self.ran(),
             Next::Differs(op, field) => self.ran().differing(index, op, field),

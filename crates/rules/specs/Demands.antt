@@ -10,7 +10,7 @@ use borrow.Author.Tests.{ltb-false, le-ltb}
 use lib.Dec.{ltb}
 use lib.ListN.{length}
 use lib.Seq.{take-all}
-use Rattle.rules.specs.Refusals.{bytesLeftAt, outputSmall, cellsLeftAt}
+use Rattle.rules.specs.Refusals.{Refusal, bytesLeftAt, outputSmall, cellsLeftAt}
 use Rattle.rules.specs.Basics.{pick, Under}
 use Rattle.rules.specs.Types.{Ty, Val, Fits}
 use Rattle.rules.specs.Parser.{Res, got, bad}
@@ -25,10 +25,10 @@ use Rattle.rules.specs.Scan.Barred.{Wider}
 use Rattle.rules.specs.Scan.Accept.{Accepted, answer, accepts, accepted, passed}
 use Rattle.rules.specs.Scan.Steady.{ByLimit, scan-wider, Short, scan-grown}
 use Rattle.rules.specs.Scan.Held.{pass-held}
-use Rattle.rules.specs.Table.{Check, fine, wrong, root, checkTable, afterCheck}
+use Rattle.rules.specs.Table.{Check, fine, wrong, noLongest, root, checkTable, afterCheck, longestOf}
 use Rattle.rules.specs.Table.Laws.{Good, check-good, good-check}
 use Rattle.rules.specs.RoundTrip.{unpack-cells, cells-unpacked}
-use Rattle.rules.specs.Jobs.{readFront, readWhole, cutTo, wrote, not, fitted, putOut, output}
+use Rattle.rules.specs.Jobs.{readFront, readWhole, cutTo, wrote, not, fitted, putOut, output, checkFields, longestFields}
 
 -- ---- where the table is refused, and where it is fine
 
@@ -44,6 +44,15 @@ whole-fine tb s lim c = ap (λ x. afterCheck x stopped (scanAll (root tb) lim s)
 done-fine : (c : Check) (x : Scan) (u : Totals) (n : ℕ) → afterCheck c stopped x ≡ done u n → (c ≡ fine) × (x ≡ done u n)
 done-fine fine x u n e = (refl, e)
 done-fine (wrong y) x u n e = absurd (let z : _≡_ {A = ℕ} 0 1 = cc in omega arith)
+
+-- ---- DEMAND 1: a refusal has its number and place, and 0 in every other field; of the table's check and its longest length (of reading and writing: *Answers* of decode and encode)
+
+pub check-refused : (tb : List ℕ) (y : Refusal) → checkTable tb ≡ wrong y
+    → checkFields (checkTable tb) ≡ record { number = y .number; place = y .place; bytes = 0; cells = 0; charge = 0; depth = 0 }
+check-refused tb y e = ap checkFields e
+
+pub longest-refused : (tb : List ℕ) (y : Refusal) → longestOf tb ≡ noLongest y → longestFields (longestOf tb) ≡ record { number = y .number; place = y .place; has = 0; bytes = 0 }
+longest-refused tb y e = ap longestFields e
 
 -- ---- DEMAND 3: a front read is accepted exactly if the written rules, without limits, read a value there, it nests at most D deep, fills at most C cells, and
 -- has no vector or its whole charge is below M; and then its bytes, cells, charge and depth are the value's

@@ -1,4 +1,5 @@
 -- Writing, kind by kind: the bytes of the value that cells say, and how many cells it takes. A writer goes by these laws and makes no value.
+pub mod Relative
 use mathlib.Core.Bool.{Bool, true, false}
 use mathlib.Core.List.{List, _++_, [], _∷_}
 use mathlib.Core.Logic.{inl, inr}
@@ -10,19 +11,26 @@ use lib.Dec.{ltb}
 use lib.ListN.{length, drop, length-take}
 use Rattle.rules.specs.Refusals.{unfitAt}
 use Rattle.rules.specs.Basics.{pick, choose, Under, flat}
-use Rattle.rules.specs.Types.{w4, Leaf, bool, compact, Ty, leaf, nothing, result, pair, array, vector, bits, Val}
+use Rattle.rules.specs.Types.{w4, Leaf, bool, compact, Ty, leaf, nothing, result, pair, array, vector, Val}
 use Rattle.rules.specs.Parser.{Res, got, bad, Parser, more, next, mapRes, bind, map, times}
 use Rattle.rules.specs.Parser.Laws.{times-length}
 use Rattle.rules.specs.Form.{write, parse}
-use Rattle.rules.specs.Wire.{leafBytes, bitsBytes, encode}
-use Rattle.rules.specs.Cells.{cells, one, leafTaken, bitsTaken, unpack}
+use Rattle.rules.specs.Wire.{leafBytes, encode}
+use Rattle.rules.specs.Cells.{cells, one, leafTaken, unpack}
 use Rattle.rules.specs.Totals.Bound.{nine-bytes}
 use Rattle.rules.specs.RoundTrip.{cells-unpacked}
 use Rattle.rules.specs.Jobs.{putOut, output}
+use Rattle.rules.specs.declared.Put.{Put}
+use Rattle.rules.specs.declared.Put.the-variants.{Done as putDone, Refused as putNot}
 
 -- the bytes, in place of the value
 unfoldable pub put : Ty → Parser (List ℕ)
 put t at cs = mapRes (encode t) (unpack t at cs)
+
+-- how far writing got, with the first cell at index `at` and the first byte at `pos`
+unfoldable pub putOf : ℕ → ℕ → Res (List ℕ) → Put
+putOf at pos (got l n) = putDone (at + n) (pos + length l)
+putOf at pos (bad y) = putNot y
 
 -- what f gives of the first, and then the bytes of what follows it
 abbrev pub ahead : {A : Type 0} → (A → List ℕ) → (A → ℕ → Res (List ℕ)) → Res A → Res (List ℕ)
@@ -55,10 +63,6 @@ putLeaf k at cs = mapRes (leafBytes k) (leafTaken k at cs)
 pub put-leaf : (k : Leaf) (at : ℕ) (cs : List ℕ) → put (leaf k) at cs ≡ putLeaf k at cs
 unfolding put parse write
 put-leaf k at cs = refl
-
-pub put-bits : (at : ℕ) (cs : List ℕ) → put bits at cs ≡ mapRes bitsBytes (bitsTaken at cs)
-unfolding put parse write
-put-bits at cs = refl
 
 pub put-nothing : (at : ℕ) (cs : List ℕ) → put nothing at cs ≡ got [] 0
 unfolding put parse write mapRes

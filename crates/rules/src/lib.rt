@@ -77,6 +77,12 @@ pub enum Longest {
     Refused(Refusal),
 }
 
+// How far writing got: the index behind the last cell that was taken and behind the last byte that was put, or why it is refused.
+pub enum Put {
+    Done(usize, usize),
+    Refused(Refusal),
+}
+
 // What writing and appending answer: how many bytes are used now.
 pub enum Written {
     Bytes(usize),

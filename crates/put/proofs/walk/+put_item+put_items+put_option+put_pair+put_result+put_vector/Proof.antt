@@ -31,9 +31,9 @@ use Rattle.put.proofs.walk.+put_item+put_items+put_option+put_pair+put_
 use Rattle.put.proofs.walk.put_items.Reads as put-items
 use Rattle.put.proofs.walk.put_items.Kinds as put-items-kinds
 use Rattle.put.proofs.walk.+put_item+put_items+put_option+put_pair+put_result+put_vector.Lts-put_items as put-items-lts
-use Rattle.put.proofs.bits.put_bits.Reads as put-bits-reads
-use Rattle.put.proofs.leaf.because.Reads as because-reads
-use Rattle.put.proofs.leaf.put_leaf.Reads as put-leaf-reads
+use Rattle.put.proofs.single.put_bits.Reads as put-bits-reads
+use Rattle.put.proofs.because.Reads as because-reads
+use Rattle.put.proofs.single.put_leaf.Reads as put-leaf-reads
 use Rattle.node.proofs.node_at.Reads as node-at-reads
 use Rattle.put.proofs.walk.+put_item+put_items+put_option+put_pair+put_result+put_vector.{statement}
 use Rattle.put.proofs.walk.+put_item+put_items+put_option+put_pair+put_result+put_vector.Tie.{close}
