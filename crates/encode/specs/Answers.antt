@@ -196,11 +196,13 @@ refusal-fields o out r m y c e = ap writtenFields e
 -- ---- the size: it tells the room that a write needs
 
 -- the value that it is the size of
-measured : (tb cs : List ℕ) (q : Written) (n : ℕ) → Under (2 ^ 64) cs → q ≡ writtenOf (writeCells tb cs (2 ^ 64 - 1)) → q ≡ wroteBytes n
-    → (v : Val (root tb)) × (checkTable tb ≡ fine) × (Fits (root tb) v) × (cells (root tb) v ≡ cs) × (length (encode (root tb) v) ≡ n)
+abbrev SizeOf : List ℕ → List ℕ → ℕ → Type 0
+SizeOf tb cs n = (v : Val (root tb)) × (checkTable tb ≡ fine) × (Fits (root tb) v) × (cells (root tb) v ≡ cs) × (length (encode (root tb) v) ≡ n)
+
+measured : (tb cs : List ℕ) (q : Written) (n : ℕ) → Under (2 ^ 64) cs → q ≡ writtenOf (writeCells tb cs (2 ^ 64 - 1)) → q ≡ wroteBytes n → SizeOf tb cs n
 measured tb cs q n u e f = go (writeCells tb cs (2 ^ 64 - 1)) refl
   where
-    go : (o : Output) → writeCells tb cs (2 ^ 64 - 1) ≡ o → (v : Val (root tb)) × (checkTable tb ≡ fine) × (Fits (root tb) v) × (cells (root tb) v ≡ cs) × (length (encode (root tb) v) ≡ n)
+    go : (o : Output) → writeCells tb cs (2 ^ 64 - 1) ≡ o → SizeOf tb cs n
     go (not y) k = absurd (let z0 : notWritten y ≡ wroteBytes n = sym (ap writtenOf k) ∙ sym e ∙ f in let z : _≡_ {A = ℕ} 0 1 = cc in omega arith)
     go (wrote l) k =
         let z0 : wroteBytes (length l) ≡ wroteBytes n = sym (ap writtenOf k) ∙ sym e ∙ f in

@@ -35,7 +35,7 @@ module _ (tb s m : List ℕ) (r : Scan) (f : Filled tb s m r) where
   answered : (a : Scan) → r ≡ a → readWhole tb s programLimits ≡ a
   answered a e = ap (readWhole tb s) (sym uncut) ∙ sym (f .0) ∙ e
 
-  pub refused-put : (y : Refusal) (out text : List ℕ) (k : ℕ) → r ≡ stopped y → Puts (refusedLine y) 0 out k text → Puts (reportOf tb s) 0 out k text
+  pub refused-put : (y : Refusal) (out text : List ℕ) (k : ℕ) → r ≡ stopped y → Puts (refusedLine (y .number) (y .place)) 0 out k text → Puts (reportOf tb s) 0 out k text
   refused-put y out text k e p = same-text (sym (report-refused tb s y (answered (stopped y) e))) p
 
   -- the counted cells are there, and are those that were passed

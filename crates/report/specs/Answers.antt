@@ -11,7 +11,6 @@ use Rattle.rules.specs.Demands.{whole-accepts, whole-accepted, whole-decided}
 use Rattle.rules.specs.Jobs.{readWhole}
 use Rattle.rules.specs.Parser.{got}
 use Rattle.rules.specs.Places.{sets-onto}
-use Rattle.rules.specs.Refusals.{because}
 use Rattle.rules.specs.Scan.{scanned}
 use Rattle.rules.specs.Scan.Accept.{Accepted, answer, passed}
 use Rattle.rules.specs.Table.{root}
@@ -35,9 +34,9 @@ pub ok-length : (u : Totals) (n : ℕ) → length (okLine u n) ≤ 87
 unfolding okLine
 ok-length u n = line-length ok (n ∷ u .cells ∷ u .charge ∷ u .depth ∷ [])
 
-pub refused-length : (y : Refusal) → length (refusedLine y) ≤ 50
+pub refused-length : (number place : ℕ) → length (refusedLine number place) ≤ 50
 unfolding refusedLine
-refused-length y = line-length refused (y .number ∷ y .place ∷ [])
+refused-length number place = line-length refused (number ∷ place ∷ [])
 
 pub cells-length : (cs : List ℕ) → length (flat cellLine cs) ≤ 21 * length cs
 unfolding cellLine
@@ -47,7 +46,7 @@ cells-length (v ∷ cs) = omega (arith, length-append (lineOf (decimal v) []) (f
 -- ---- the report on a message
 
 -- a refusal is one line
-pub report-refused : (tb s : List ℕ) (y : Refusal) → readWhole tb s programLimits ≡ stopped y → reportOf tb s ≡ refusedLine y
+pub report-refused : (tb s : List ℕ) (y : Refusal) → readWhole tb s programLimits ≡ stopped y → reportOf tb s ≡ refusedLine (y .number) (y .place)
 unfolding reportOf reportLines
 report-refused tb s y e = ap (λ a. reportLines a (scanned (root tb) programLimits s)) e
 
@@ -86,7 +85,7 @@ pub report-fits : (tb s : List ℕ) → length (reportOf tb s) ≤ mostBytes
 report-fits tb s = go (readWhole tb s programLimits) refl
   where
     go : (a : Scan) → readWhole tb s programLimits ≡ a → length (reportOf tb s) ≤ mostBytes
-    go (stopped y) e = omega (arith, ap length (report-refused tb s y e), refused-length y)
+    go (stopped y) e = omega (arith, ap length (report-refused tb s y e), refused-length (y .number) (y .place))
     go (done u n) e =
         let l = flat cellLine (scanned (root tb) programLimits s) in
         let c = cells-counted tb s u n e in
@@ -94,7 +93,7 @@ report-fits tb s = go (readWhole tb s programLimits) refl
 
 pub unreadable-fits : length unreadable ≤ mostBytes
 unfolding unreadable
-unreadable-fits = omega (arith, refused-length (because 40 0))
+unreadable-fits = omega (arith, refused-length 40 0)
 
 -- ---- what the contracts of the public functions say, for a text: r is the answer, l the lent memory and m what it is afterwards
 

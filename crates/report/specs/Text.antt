@@ -5,11 +5,9 @@ use lib.Dec.{ltb}
 use Rattle.io.specs.Digits.{glyph}
 use Rattle.rules.specs.Basics.{pick, flat}
 use Rattle.rules.specs.Jobs.{readWhole}
-use Rattle.rules.specs.Refusals.{because}
 use Rattle.rules.specs.Scan.{scanned}
 use Rattle.rules.specs.Table.{root}
 use Rattle.rules.specs.declared.Limits.{Limits}
-use Rattle.rules.specs.declared.Refusal.{Refusal}
 use Rattle.rules.specs.declared.Scan.{Scan}
 use Rattle.rules.specs.declared.Scan.the-variants.{Done as done, Refused as stopped}
 use Rattle.rules.specs.declared.Totals.{Totals}
@@ -45,8 +43,8 @@ unfoldable pub okLine : Totals → ℕ → List ℕ
 okLine u n = lineOf ok (n ∷ u .cells ∷ u .charge ∷ u .depth ∷ [])
 
 -- refused NUMBER PLACE
-unfoldable pub refusedLine : Refusal → List ℕ
-refusedLine y = lineOf refused (y .number ∷ y .place ∷ [])
+unfoldable pub refusedLine : ℕ → ℕ → List ℕ
+refusedLine number place = lineOf refused (number ∷ place ∷ [])
 
 unfoldable pub cellLine : ℕ → List ℕ
 cellLine v = lineOf (decimal v) []
@@ -55,7 +53,7 @@ cellLine v = lineOf (decimal v) []
 
 unfoldable pub reportLines : Scan → List ℕ → List ℕ
 reportLines (done u n) cs = okLine u n ++ flat cellLine cs
-reportLines (stopped y) cs = refusedLine y
+reportLines (stopped y) cs = refusedLine (y .number) (y .place)
 
 -- D, M and C of the program
 abbrev pub programLimits : Limits
@@ -67,7 +65,7 @@ reportOf tb s = reportLines (readWhole tb s programLimits) (scanned (root tb) pr
 
 -- on a file that is missing or too large
 unfoldable pub unreadable : List ℕ
-unreadable = refusedLine (because 40 0)
+unreadable = refusedLine 40 0
 
 -- no report is longer: `ok` with four numbers, and 4096 cells, all of 20 digits
 abbrev pub mostBytes : ℕ

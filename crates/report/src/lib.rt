@@ -7,7 +7,6 @@ ghost use Prim.Native.Nat.{_+_, _*_, _≤_, _<_, _^_};
 ghost use lib.ListN.{length, set};
 ghost use lib.Seq.{sets};
 ghost use Rattle.rules.specs.Basics.{flat};
-ghost use Rattle.rules.specs.Refusals.{because};
 ghost use Rattle.report.specs.Text.{okLine, refusedLine, cellLine, reportOf, unreadable};
 ghost use Rattle.report.specs.Puts.{Puts, ended};
 use rules::Limits;
@@ -73,7 +72,7 @@ fn put_two(a: u64, b: u64, last: u8, out: &mut [u8], at: usize) -> usize
 }
 
 fn put_refused(number: u32, place: usize, out: &mut [u8]) -> usize
-    ensures { λ r. ⌜ Puts (refusedLine (because number place)) 0 (now (out .entry)) r (now (out .exit)) ⌝ }
+    ensures { λ r. ⌜ Puts (refusedLine number place) 0 (now (out .entry)) r (now (out .exit)) ⌝ }
 {
     let word = put(b"refused ", out, 0);
     put_two(number as u64, place as u64, b'\n', out, word)
