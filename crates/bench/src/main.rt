@@ -1,5 +1,7 @@
 // Runs the plans on the bench and the public examples of the SCALE description, reading and writing each. A line each says whether all came out as it stands here, and
 // the last line how many there are and how many differ.
+#![tactic(auto)]
+
 mod appends;
 mod checks;
 mod compacts;

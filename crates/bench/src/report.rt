@@ -2,7 +2,7 @@
 use libc::STDOUT_FILENO;
 use rules::Width;
 
-#[derive(Drop)]
+#[derive(Clone, Copy)]
 pub(crate) struct Tally {
     pub plans: u64,
     pub differ: u64,

@@ -1,5 +1,7 @@
 // Bit vectors: n bits, lowest bit first, moved from the bytes of a message into 64-bit cells and back. Bits past n are ignored where they are read and 0 where they
 // are written. What does not fit the lent memory is left out, so that a caller who lends none only learns whether the bits are there.
+#![tactic(auto)]
+
 ghost use Rattle.std.specs.Prelude.{◌≡◌, ◌-◌, ◌*◌, ◌/◌, ◌%◌, ◌^◌, ◌≤◌, ◌<◌, min, length, take, drop};
 ghost use Rattle.std.proofs.lemmas.List.Edits.{sets};
 ghost use Rattle.rules.specs.Bits.{words8, words64, bits_value, pack, lanes};
@@ -8,14 +10,14 @@ ghost use Rattle.bit_vec.specs.Moves.{bits_read, cells_read, bits_written, bytes
 use rules::Refusal;
 
 // What writing bits answers: how many bytes they take, or that the cells which should hold them are not all there.
-#[derive(Drop)]
+#[derive(Clone, Copy)]
 pub enum Lanes {
     Bytes(usize),
     Short,
 }
 
 // What reading bits answers: how many bytes they took, or why they are refused.
-#[derive(Drop)]
+#[derive(Clone, Copy)]
 pub enum Moved {
     Took(usize),
     Refused(Refusal),

@@ -13,7 +13,7 @@ pub(crate) const MOST_CELLS: usize = 512;
 const TOO_LONG: usize = 0xffff_ffff_ffff_ffff;
 
 // Where the fields of a body stand: field i from `from[i]` to `to[i]`. They mean something only if they `fit`: if the body is just these fields.
-#[derive(Drop)]
+#[derive(Clone, Copy)]
 pub(crate) struct Fields {
     pub fit: bool,
     pub from: [usize; 14],

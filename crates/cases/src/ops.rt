@@ -80,7 +80,7 @@ fn compare(body: &[u8], fields: Fields, first: usize, got: &[u64], memory: bool)
 // ---- compact numbers
 
 // A width, if a number names one.
-#[derive(Drop)]
+#[derive(Clone, Copy)]
 enum Named {
     Width(Width),
     Nothing,

@@ -1,5 +1,7 @@
 // SCALE compact numbers at u8 to u128, read. The low two bits of the first byte choose the form.
 // A value is two 64-bit halves and the width an argument, so that one code and one proof serve every width.
+#![tactic(auto)]
+
 ghost use Rattle.std.specs.Prelude.{◌≡◌, ◌∷◌, ◌+◌, ◌-◌, ◌*◌, ◌/◌, ◌%◌, ◌^◌, max, ◌≤◌, length, take};
 ghost use Rattle.rules.specs.Types.{size};
 ghost use Rattle.rules.specs.Bytes.{le_value};
@@ -9,7 +11,7 @@ ghost use Rattle.compact.specs.Halves.{whole, in_halves};
 use rules::Width;
 
 // What reading answers: a value's halves with the bytes that it took, or the refusal, 10, 12 or 13.
-#[derive(Drop)]
+#[derive(Clone, Copy)]
 pub enum Reading {
     Value { low: u64, high: u64, used: usize },
     Short,

@@ -1,4 +1,6 @@
 // SCALE compact numbers at u8 to u128, written: the first form that holds a value, its bytes, their length, and the longest at each width.
+#![tactic(auto)]
+
 ghost use Rattle.std.specs.Prelude.{◌≡◌, ◌^◌, ◌≤◌, length, take};
 ghost use Rattle.std.proofs.lemmas.List.Edits.{sets};
 ghost use Rattle.rules.specs.Totals.{longest_compact};
@@ -10,7 +12,7 @@ ghost use Rattle.compact_put.specs.Padded.{padded, OfForm};
 use rules::Width;
 
 // One encoding by value, beside its length. The bytes past the length are 0.
-#[derive(Drop)]
+#[derive(Clone, Copy)]
 pub struct Encoded {
     pub bytes: [u8; 17],
     pub len: usize,

@@ -1,4 +1,6 @@
 // Writing cells as bytes, by any table: what is put, or the number and place of what refuses it.
+#![tactic(auto)]
+
 ghost use Rattle.std.specs.Prelude.{◌≡◌, ◌-◌, ◌^◌, length};
 ghost use Rattle.rules.specs.Refusals.{because};
 ghost use Rattle.rules.specs.Jobs.{write_cells, write_items, written_of, output_after};

@@ -1,5 +1,7 @@
 // Appending items to an encoded vector, in the buffer that holds it. Of the old bytes only the count is read: its head is replaced, the bytes behind it follow
 // unchanged, and the new items stand behind these. All is decided before the first byte is put, so a refusal leaves the buffer as it was.
+#![tactic(auto)]
+
 ghost use Rattle.std.specs.Prelude.{◌≡◌, ◌++◌, ◌+◌, ◌-◌, ◌^◌, ◌≤◌, length, take, drop};
 ghost use Rattle.std.proofs.lemmas.List.Edits.{sets};
 ghost use Rattle.rules.specs.Basics.{onto};
@@ -13,14 +15,14 @@ use compact::Reading;
 use rules::{Check, Node, Refusal, Width, Written};
 
 // What the heads are: the new count, the length of the old head and that of the new one.
-#[derive(Drop)]
+#[derive(Clone, Copy)]
 pub(crate) enum Lengths {
     Of(u64, usize, usize),
     Refused(Refusal),
 }
 
 // What an append does: the same, and the bytes of the new items.
-#[derive(Drop)]
+#[derive(Clone, Copy)]
 pub(crate) enum Plan {
     Join(u64, usize, usize, usize),
     Refused(Refusal),

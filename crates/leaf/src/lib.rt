@@ -1,4 +1,6 @@
 // Scalars and counts at the front of a message: a leaf's value as its cells. Floats and signed integers are their bits, and no bit of them is looked at.
+#![tactic(auto)]
+
 ghost use Rattle.std.specs.Prelude.{◌≡◌, ◌≤◌};
 ghost use Rattle.rules.specs.Refusals.{because};
 ghost use Rattle.rules.specs.Cells.{two};
@@ -9,7 +11,7 @@ use compact::Reading;
 use rules::{Leaf, Refusal, Width};
 
 // A leaf's value in one cell or in two, with the bytes that it took, or why it is refused.
-#[derive(Drop)]
+#[derive(Clone, Copy)]
 pub enum Taken {
     One(u64, usize),
     Two(u64, u64, usize),
@@ -17,7 +19,7 @@ pub enum Taken {
 }
 
 // A count with the bytes of its head, or why it is refused.
-#[derive(Drop)]
+#[derive(Clone, Copy)]
 pub enum Count {
     Of(u64, usize),
     Refused(Refusal),

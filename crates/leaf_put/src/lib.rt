@@ -1,5 +1,7 @@
 // Scalars, tags, counts and bit vectors from cells: whether the cells are there and fit, and the bytes of the value. Floats and signed integers are their bits, and
 // no bit of them is looked at. A byte past the end of the output is not written, so that a caller who lends none only learns how many there are.
+#![tactic(auto)]
+
 ghost use Rattle.std.specs.Prelude.{◌≡◌, ◌+◌, ◌≤◌, ◌<◌, length, take};
 ghost use Rattle.std.proofs.lemmas.List.Edits.{sets};
 ghost use Rattle.rules.specs.Bits.{words64, lanes};
@@ -15,7 +17,7 @@ ghost use Rattle.leaf_put.specs.Landed.{Took, landed_of};
 use rules::{Leaf, Put, Refusal, Width};
 
 // The cells of a leaf, one or two, or why they are refused.
-#[derive(Drop)]
+#[derive(Clone, Copy)]
 enum Taken {
     One(u64),
     Two(u64, u64),

@@ -1,5 +1,7 @@
 // The limits along the way: depth, memory and cells, in one record by value in place of three inputs that wrap one another, and the lent cells. A cell
 // past the end of what was lent is not written: so one walker decides, with none lent, and then fills.
+#![tactic(auto)]
+
 ghost use Rattle.std.specs.Prelude.{◌≡◌, [], ◌∷◌, ◌+◌, ◌-◌, ◌*◌, max, set};
 ghost use Rattle.std.proofs.lemmas.List.Edits.{sets};
 ghost use Rattle.rules.specs.Refusals.{because};
@@ -10,7 +12,7 @@ ghost use Rattle.rules.specs.Scan.Units.{units_at, zeros};
 use rules::{Limits, Refusal, Scan, Totals};
 
 // The limits, and what was met so far.
-#[derive(Drop)]
+#[derive(Clone, Copy)]
 pub struct Meter {
     pub limits: Limits,
     pub totals: Totals,

@@ -1,4 +1,6 @@
 // A node of a type table, as an enum: what its four bytes say.
+#![tactic(auto)]
+
 ghost use Rattle.std.specs.Prelude.{◌≡◌, ◌+◌, ◌*◌};
 ghost use Rattle.rules.specs.Table.{unused as ifUnused, with_width, float_node, node_of, node_in};
 ghost use Rattle.node.specs.Names.{fixed, compact};
@@ -21,7 +23,7 @@ fn word(low: u8, high: u8) -> usize
 }
 
 // A width, if a number names one.
-#[derive(Drop)]
+#[derive(Clone, Copy)]
 enum Named {
     Width(Width),
     Nothing,

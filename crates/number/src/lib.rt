@@ -1,5 +1,7 @@
 // Numbers of up to eight bytes, lowest byte first: read from the front of a slice, and written into one.
 // Both take any count: what is not there is not read, and what falls past the end is not written.
+#![tactic(auto)]
+
 ghost use Rattle.std.specs.Prelude.{◌≡◌, min, take};
 ghost use Rattle.std.proofs.lemmas.List.Edits.{sets};
 ghost use Rattle.rules.specs.Bytes.{le_value, le_bytes};

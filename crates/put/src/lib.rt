@@ -1,5 +1,7 @@
 // The walk over cells by a table, which puts their bytes. It goes over the cells twice: first with no output, to decide, and then, if all cells are taken and there
 // is room, with the lent one; so the output has all bytes of a part or none.
+#![tactic(auto)]
+
 mod single;
 mod walk;
 
@@ -14,7 +16,7 @@ use rules::{Check, Node, Put, Refusal};
 use walk::{put_item, put_items};
 
 // What is written: a value of the root, or items of a root that is a vector, without its head.
-#[derive(Drop)]
+#[derive(Clone, Copy)]
 pub enum Part {
     Root,
     Items(u64),

@@ -1,4 +1,6 @@
 // Readings that a wrong port would get wrong, or would never finish. Each prints the line that the program `wave` would begin with.
+#![tactic(auto)]
+
 use libc::STDOUT_FILENO;
 use rules::{Limits, Scan};
 

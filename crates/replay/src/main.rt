@@ -1,5 +1,7 @@
 // Runs the cases of the file vectors.hrv, which stands in the working folder, and says how many there are and how many differ. A case at a time is read, so a file
 // of any size will do. A file that is damaged is given up there, and the last line says why.
+#![tactic(auto)]
+
 mod names;
 mod report;
 
@@ -9,7 +11,7 @@ use cases::{LONGEST_BODY, Outcome};
 use report::Tally;
 
 // What comes next in the file: its end, a case with its outcome, or why there is none.
-#[derive(Drop)]
+#[derive(Clone, Copy)]
 pub(crate) enum Next {
     Same,
     Differs(u8, usize),

@@ -7,7 +7,7 @@ use libc::STDOUT_FILENO;
 const MOST_LINES: u64 = 20;
 
 // What was found so far, and whether there may be more.
-#[derive(Drop)]
+#[derive(Clone, Copy)]
 pub(crate) struct Tally {
     pub going: bool,
     pub cases: u64,

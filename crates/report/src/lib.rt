@@ -1,6 +1,8 @@
 // What the program prints, as bytes: `ok` with the bytes, cells, charge and depth of a message that is accepted, and its cells, a line each; or the one line of a
 // refusal. It is put into lent memory; a byte past the end of that is not written, and the answer is how long the whole text is. So a caller that lends MOST
 // bytes has all of it.
+#![tactic(auto)]
+
 ghost use Rattle.std.specs.Prelude.{◌≡◌, ◌++◌, ◌+◌, ◌*◌, ◌≤◌, ◌<◌, ◌^◌, length, set};
 ghost use Rattle.std.proofs.lemmas.List.Edits.{sets};
 ghost use Rattle.rules.specs.Basics.{flat};

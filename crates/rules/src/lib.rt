@@ -1,8 +1,9 @@
 // The words that the definitions in specs/ and the code of every crate above share: the widths, leaves and nodes of a type table, the limits, the answers and
 // the refusal numbers. There is no function here: the theory of the format stands in specs/, and a contract's right side is a definition from there.
+#![tactic(auto)]
 
 // A width of a number, in bytes.
-#[derive(Drop)]
+#[derive(Clone, Copy)]
 pub enum Width {
     W1,
     W2,
@@ -12,7 +13,7 @@ pub enum Width {
 }
 
 // The kinds 0 to 5: what is read and checked at once.
-#[derive(Drop)]
+#[derive(Clone, Copy)]
 pub enum Leaf {
     Unit,
     Bool,
@@ -23,7 +24,7 @@ pub enum Leaf {
 }
 
 // A node of the table, with its children's indices: of an array the number of items stands first. Unknown is a node that no kind allows.
-#[derive(Drop)]
+#[derive(Clone, Copy)]
 pub enum Node {
     Leaf(Leaf),
     Option(usize),
@@ -36,14 +37,14 @@ pub enum Node {
 }
 
 // Why a job was refused: the number, and the place that goes with it.
-#[derive(Drop)]
+#[derive(Clone, Copy)]
 pub struct Refusal {
     pub number: u32,
     pub place: usize,
 }
 
 // D, M and C.
-#[derive(Drop)]
+#[derive(Clone, Copy)]
 pub struct Limits {
     pub depth: u32,
     pub memory: u64,
@@ -51,7 +52,7 @@ pub struct Limits {
 }
 
 // What was met so far: the deepest level, the charge, how many cells.
-#[derive(Drop)]
+#[derive(Clone, Copy)]
 pub struct Totals {
     pub depth: u32,
     pub charge: u64,
@@ -59,28 +60,28 @@ pub struct Totals {
 }
 
 // What reading answers: the totals and the bytes that were used, or the refusal.
-#[derive(Drop)]
+#[derive(Clone, Copy)]
 pub enum Scan {
     Done(Totals, usize),
     Refused(Refusal),
 }
 
 // What the check of a table answers.
-#[derive(Drop)]
+#[derive(Clone, Copy)]
 pub enum Check {
     Fine,
     Refused(Refusal),
 }
 
 // The check of a table, and the footprint of each node: 0 past the last one, and everywhere if the table is refused.
-#[derive(Drop)]
+#[derive(Clone, Copy)]
 pub struct Footprints {
     pub check: Check,
     pub feet: [u64; 64],
 }
 
 // What a table's longest length is: a number of bytes, or none where the root can reach a vector.
-#[derive(Drop)]
+#[derive(Clone, Copy)]
 pub enum Longest {
     Bytes(u64),
     Unbounded,
@@ -88,14 +89,14 @@ pub enum Longest {
 }
 
 // How far writing got: the index behind the last cell that was taken and behind the last byte that was put, or why it is refused.
-#[derive(Drop)]
+#[derive(Clone, Copy)]
 pub enum Put {
     Done(usize, usize),
     Refused(Refusal),
 }
 
 // What writing and appending answer: how many bytes are used now.
-#[derive(Drop)]
+#[derive(Clone, Copy)]
 pub enum Written {
     Bytes(usize),
     Refused(Refusal),

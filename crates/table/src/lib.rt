@@ -1,4 +1,6 @@
 // The check of a type table, and with it the footprint of each node.
+#![tactic(auto)]
+
 ghost use Rattle.std.specs.Prelude.{◌≡◌, ◌≤◌, ◌^◌, length, get_or};
 ghost use Rattle.rules.specs.Basics.{Under};
 ghost use Rattle.rules.specs.Refusals.{because};

@@ -1,4 +1,6 @@
 // What is found from all nodes of a checked table: the longest length of its root, and the units of its nodes.
+#![tactic(auto)]
+
 ghost use Rattle.std.proofs.Math.Option.{some};
 ghost use Rattle.std.specs.Prelude.{◌≡◌, ◌+◌, ◌-◌, ◌*◌, ◌≤◌, max, eqb, get_or};
 ghost use Rattle.rules.specs.Basics.{pick};

@@ -1,4 +1,6 @@
 // The program: reads the table `wave.wtd` and the message `wave.scl` in its working directory, and prints the report on them.
+#![tactic(auto)]
+
 ghost use Rattle.io.specs.Counts.{IsPrefixLen};
 
 use libc::STDOUT_FILENO;
@@ -10,7 +12,7 @@ const TABLE_MOST: usize = 262;
 const MESSAGE_MOST: usize = 32768;
 
 // Whether a file is there and not too large, and how many bytes it has; 0 if it is not.
-#[derive(Drop)]
+#[derive(Clone, Copy)]
 struct File {
     usable: bool,
     size: usize,
