@@ -11,7 +11,7 @@ use crate::single::{put_bits, put_leaf};
 use rules::{Leaf, Node, Put, Width};
 
 // The item that node `node` of a checked table describes, whose cells start at index `at`, which is where cs starts, with its bytes from `pos` on.
-#[cycle(put_item_put_items_put_option_put_pair_put_result_put_vector)]
+#[cycle(walk)]
 pub(crate) fn put_item(
     table: &[u8],
     node: usize,
@@ -21,8 +21,8 @@ pub(crate) fn put_item(
     pos: usize,
 ) -> Put
     requires { Puttable table.now node at cs.now pos }
-    ensures* answers { λ r. ⌜ r ≡ put_of at pos (put (ty_at table.now node) at cs.now) ⌝ }
-    ensures* writes { λ _. ⌜ Landed pos (put (ty_at table.now node) at cs.now) out.old out.new ⌝ }
+    ensures answers { result ≡ put_of at pos (put (ty_at table.now node) at cs.now) }
+    ensures writes { Landed pos (put (ty_at table.now node) at cs.now) out.old out.new }
 {
     match node::node_at(table, node) {
         Node::Leaf(leaf) => put_leaf(leaf, at, cs, out, pos),
@@ -38,11 +38,11 @@ pub(crate) fn put_item(
 }
 
 // An Option of node `a`: its tag, and behind tag 1 the item.
-#[cycle(put_item_put_items_put_option_put_pair_put_result_put_vector)]
+#[cycle(walk)]
 fn put_option(table: &[u8], a: usize, at: usize, cs: &[u64], out: &mut [u8], pos: usize) -> Put
     requires { Puttable table.now a at cs.now pos }
-    ensures* answers { λ r. ⌜ r ≡ put_of at pos (put (option (ty_at table.now a)) at cs.now) ⌝ }
-    ensures* writes { λ _. ⌜ Landed pos (put (option (ty_at table.now a)) at cs.now) out.old out.new ⌝ }
+    ensures answers { result ≡ put_of at pos (put (option (ty_at table.now a)) at cs.now) }
+    ensures writes { Landed pos (put (option (ty_at table.now a)) at cs.now) out.old out.new }
 {
     match put_leaf(Leaf::Bool, at, cs, out, pos) {
         Put::Refused(y) => Put::Refused(y),
@@ -57,7 +57,7 @@ fn put_option(table: &[u8], a: usize, at: usize, cs: &[u64], out: &mut [u8], pos
 }
 
 // A Result of nodes `a` and `b`: its tag, and behind it the item that the tag chooses.
-#[cycle(put_item_put_items_put_option_put_pair_put_result_put_vector)]
+#[cycle(walk)]
 fn put_result(
     table: &[u8],
     a: usize,
@@ -68,8 +68,8 @@ fn put_result(
     pos: usize,
 ) -> Put
     requires { (Puttable table.now a at cs.now pos) × (Puttable table.now b at cs.now pos) }
-    ensures* answers { λ r. ⌜ r ≡ put_of at pos (put (result (ty_at table.now a) (ty_at table.now b)) at cs.now) ⌝ }
-    ensures* writes { λ _. ⌜ Landed pos (put (result (ty_at table.now a) (ty_at table.now b)) at cs.now) out.old out.new ⌝ }
+    ensures answers { result ≡ put_of at pos (put (result_type (ty_at table.now a) (ty_at table.now b)) at cs.now) }
+    ensures writes { Landed pos (put (result_type (ty_at table.now a) (ty_at table.now b)) at cs.now) out.old out.new }
 {
     match put_leaf(Leaf::Bool, at, cs, out, pos) {
         Put::Refused(y) => Put::Refused(y),
@@ -84,7 +84,7 @@ fn put_result(
 }
 
 // A pair: an item of node `a`, and behind it one of node `b`.
-#[cycle(put_item_put_items_put_option_put_pair_put_result_put_vector)]
+#[cycle(walk)]
 fn put_pair(
     table: &[u8],
     a: usize,
@@ -95,8 +95,8 @@ fn put_pair(
     pos: usize,
 ) -> Put
     requires { (Puttable table.now a at cs.now pos) × (Puttable table.now b at cs.now pos) }
-    ensures* answers { λ r. ⌜ r ≡ put_of at pos (put (pair (ty_at table.now a) (ty_at table.now b)) at cs.now) ⌝ }
-    ensures* writes { λ _. ⌜ Landed pos (put (pair (ty_at table.now a) (ty_at table.now b)) at cs.now) out.old out.new ⌝ }
+    ensures answers { result ≡ put_of at pos (put (pair (ty_at table.now a) (ty_at table.now b)) at cs.now) }
+    ensures writes { Landed pos (put (pair (ty_at table.now a) (ty_at table.now b)) at cs.now) out.old out.new }
 {
     match put_item(table, a, at, cs, out, pos) {
         Put::Refused(y) => Put::Refused(y),
@@ -108,11 +108,11 @@ fn put_pair(
 }
 
 // A vector of items of node `a`: its count, and behind it the items.
-#[cycle(put_item_put_items_put_option_put_pair_put_result_put_vector)]
+#[cycle(walk)]
 fn put_vector(table: &[u8], a: usize, at: usize, cs: &[u64], out: &mut [u8], pos: usize) -> Put
     requires { Puttable table.now a at cs.now pos }
-    ensures* answers { λ r. ⌜ r ≡ put_of at pos (put (vector (ty_at table.now a)) at cs.now) ⌝ }
-    ensures* writes { λ _. ⌜ Landed pos (put (vector (ty_at table.now a)) at cs.now) out.old out.new ⌝ }
+    ensures answers { result ≡ put_of at pos (put (vector (ty_at table.now a)) at cs.now) }
+    ensures writes { Landed pos (put (vector (ty_at table.now a)) at cs.now) out.old out.new }
 {
     match put_leaf(Leaf::Compact(Width::W4), at, cs, out, pos) {
         Put::Refused(y) => Put::Refused(y),
@@ -124,7 +124,7 @@ fn put_vector(table: &[u8], a: usize, at: usize, cs: &[u64], out: &mut [u8], pos
 }
 
 // `count` items of node `node`, one after another.
-#[cycle(put_item_put_items_put_option_put_pair_put_result_put_vector)]
+#[cycle(walk)]
 pub(crate) fn put_items(
     table: &[u8],
     node: usize,
@@ -135,8 +135,8 @@ pub(crate) fn put_items(
     pos: usize,
 ) -> Put
     requires { Puttable table.now node at cs.now pos }
-    ensures* answers { λ r. ⌜ r ≡ put_of at pos (put (array count (ty_at table.now node)) at cs.now) ⌝ }
-    ensures* writes { λ _. ⌜ Landed pos (put (array count (ty_at table.now node)) at cs.now) out.old out.new ⌝ }
+    ensures answers { result ≡ put_of at pos (put (array count (ty_at table.now node)) at cs.now) }
+    ensures writes { Landed pos (put (array count (ty_at table.now node)) at cs.now) out.old out.new }
 {
     let mut rest = cs;
     let mut next = at;

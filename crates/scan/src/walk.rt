@@ -2,7 +2,7 @@
 // items are a loop, so the stack depends on the table alone, whatever a message counts.
 ghost use Rattle.std.specs.Prelude.{◌≡◌};
 ghost use Rattle.rules.specs.Table.{ty_at};
-ghost use Rattle.rules.specs.Types.{option, result, pair, vector};
+ghost use Rattle.rules.specs.Types.{option, result as result_type, pair, vector};
 ghost use Rattle.rules.specs.Scan.Pass.{pass_at, items, landed};
 ghost use Rattle.scan.specs.Walk.{Walkable};
 
@@ -14,7 +14,7 @@ use rules::{Leaf, Node, Scan};
 
 // The item that node `node` of a checked table describes, at offset `at`, which is where s starts, inside `level` vectors. `feet` and `units` are the table's
 // footprints and units. Work is bounded by bytes and cells: items without bytes are counted and not walked.
-#[cycle(scan_item_scan_items_scan_option_scan_pair_scan_result_scan_vector)]
+#[cycle(walk)]
 pub(crate) fn scan_item(
     table: &[u8],
     feet: &[u64],
@@ -27,8 +27,8 @@ pub(crate) fn scan_item(
     cells: &mut [u64],
 ) -> Scan
     requires { Walkable table.now feet.now units.now node at s.now m.limits m.totals }
-    ensures* answers { λ r. ⌜ r ≡ (pass_at (ty_at table.now node) m.limits level at s.now m.totals).answer ⌝ }
-    ensures* writes { λ _. ⌜ cells.new ≡ landed cells.old m.totals (pass_at (ty_at table.now node) m.limits level at s.now m.totals) ⌝ }
+    ensures answers { result ≡ (pass_at (ty_at table.now node) m.limits level at s.now m.totals).answer }
+    ensures writes { cells.new ≡ landed cells.old m.totals (pass_at (ty_at table.now node) m.limits level at s.now m.totals) }
 {
     if feet[node] == 0 {
         return pass_units(m, at, 1, units[node], cells);
@@ -47,7 +47,7 @@ pub(crate) fn scan_item(
 }
 
 // An Option of node `a`: its tag, and behind tag 1 the item.
-#[cycle(scan_item_scan_items_scan_option_scan_pair_scan_result_scan_vector)]
+#[cycle(walk)]
 fn scan_option(
     table: &[u8],
     feet: &[u64],
@@ -60,8 +60,8 @@ fn scan_option(
     cells: &mut [u64],
 ) -> Scan
     requires { Walkable table.now feet.now units.now a at s.now m.limits m.totals }
-    ensures* answers { λ r. ⌜ r ≡ (pass_at (option (ty_at table.now a)) m.limits level at s.now m.totals).answer ⌝ }
-    ensures* writes { λ _. ⌜ cells.new ≡ landed cells.old m.totals (pass_at (option (ty_at table.now a)) m.limits level at s.now m.totals) ⌝ }
+    ensures answers { result ≡ (pass_at (option (ty_at table.now a)) m.limits level at s.now m.totals).answer }
+    ensures writes { cells.new ≡ landed cells.old m.totals (pass_at (option (ty_at table.now a)) m.limits level at s.now m.totals) }
 {
     let limits = m.limits;
     match scan_leaf(Leaf::Bool, at, s, m, cells) {
@@ -78,7 +78,7 @@ fn scan_option(
 }
 
 // A Result of nodes `a` and `b`: its tag, and behind it the item that the tag chooses.
-#[cycle(scan_item_scan_items_scan_option_scan_pair_scan_result_scan_vector)]
+#[cycle(walk)]
 fn scan_result(
     table: &[u8],
     feet: &[u64],
@@ -92,8 +92,8 @@ fn scan_result(
     cells: &mut [u64],
 ) -> Scan
     requires { (Walkable table.now feet.now units.now a at s.now m.limits m.totals) × (Walkable table.now feet.now units.now b at s.now m.limits m.totals) }
-    ensures* answers { λ r. ⌜ r ≡ (pass_at (result (ty_at table.now a) (ty_at table.now b)) m.limits level at s.now m.totals).answer ⌝ }
-    ensures* writes { λ _. ⌜ cells.new ≡ landed cells.old m.totals (pass_at (result (ty_at table.now a) (ty_at table.now b)) m.limits level at s.now m.totals) ⌝ }
+    ensures answers { result ≡ (pass_at (result_type (ty_at table.now a) (ty_at table.now b)) m.limits level at s.now m.totals).answer }
+    ensures writes { cells.new ≡ landed cells.old m.totals (pass_at (result_type (ty_at table.now a) (ty_at table.now b)) m.limits level at s.now m.totals) }
 {
     let limits = m.limits;
     match scan_leaf(Leaf::Bool, at, s, m, cells) {
@@ -110,7 +110,7 @@ fn scan_result(
 }
 
 // A pair: an item of node `a`, and behind it one of node `b`.
-#[cycle(scan_item_scan_items_scan_option_scan_pair_scan_result_scan_vector)]
+#[cycle(walk)]
 fn scan_pair(
     table: &[u8],
     feet: &[u64],
@@ -124,8 +124,8 @@ fn scan_pair(
     cells: &mut [u64],
 ) -> Scan
     requires { (Walkable table.now feet.now units.now a at s.now m.limits m.totals) × (Walkable table.now feet.now units.now b at s.now m.limits m.totals) }
-    ensures* answers { λ r. ⌜ r ≡ (pass_at (pair (ty_at table.now a) (ty_at table.now b)) m.limits level at s.now m.totals).answer ⌝ }
-    ensures* writes { λ _. ⌜ cells.new ≡ landed cells.old m.totals (pass_at (pair (ty_at table.now a) (ty_at table.now b)) m.limits level at s.now m.totals) ⌝ }
+    ensures answers { result ≡ (pass_at (pair (ty_at table.now a) (ty_at table.now b)) m.limits level at s.now m.totals).answer }
+    ensures writes { cells.new ≡ landed cells.old m.totals (pass_at (pair (ty_at table.now a) (ty_at table.now b)) m.limits level at s.now m.totals) }
 {
     let limits = m.limits;
     match scan_item(table, feet, units, a, level, at, s, m, cells) {
@@ -139,7 +139,7 @@ fn scan_pair(
 }
 
 // A vector of items of node `a`: its count, its limits, and then the items, one level deeper.
-#[cycle(scan_item_scan_items_scan_option_scan_pair_scan_result_scan_vector)]
+#[cycle(walk)]
 fn scan_vector(
     table: &[u8],
     feet: &[u64],
@@ -152,8 +152,8 @@ fn scan_vector(
     cells: &mut [u64],
 ) -> Scan
     requires { Walkable table.now feet.now units.now a at s.now m.limits m.totals }
-    ensures* answers { λ r. ⌜ r ≡ (pass_at (vector (ty_at table.now a)) m.limits level at s.now m.totals).answer ⌝ }
-    ensures* writes { λ _. ⌜ cells.new ≡ landed cells.old m.totals (pass_at (vector (ty_at table.now a)) m.limits level at s.now m.totals) ⌝ }
+    ensures answers { result ≡ (pass_at (vector (ty_at table.now a)) m.limits level at s.now m.totals).answer }
+    ensures writes { cells.new ≡ landed cells.old m.totals (pass_at (vector (ty_at table.now a)) m.limits level at s.now m.totals) }
 {
     let limits = m.limits;
     match count_from(at, s) {
@@ -182,7 +182,7 @@ fn scan_vector(
 }
 
 // `count` items of node `node`, one after another.
-#[cycle(scan_item_scan_items_scan_option_scan_pair_scan_result_scan_vector)]
+#[cycle(walk)]
 fn scan_items(
     table: &[u8],
     feet: &[u64],
@@ -196,8 +196,8 @@ fn scan_items(
     cells: &mut [u64],
 ) -> Scan
     requires { Walkable table.now feet.now units.now node at s.now m.limits m.totals }
-    ensures* answers { λ r. ⌜ r ≡ (items count (pass_at (ty_at table.now node) m.limits level) at s.now m.totals).answer ⌝ }
-    ensures* writes { λ _. ⌜ cells.new ≡ landed cells.old m.totals (items count (pass_at (ty_at table.now node) m.limits level) at s.now m.totals) ⌝ }
+    ensures answers { result ≡ (items count (pass_at (ty_at table.now node) m.limits level) at s.now m.totals).answer }
+    ensures writes { cells.new ≡ landed cells.old m.totals (items count (pass_at (ty_at table.now node) m.limits level) at s.now m.totals) }
 {
     if feet[node] == 0 {
         return pass_units(m, at, count, units[node], cells);

@@ -1,0 +1,46 @@
+use mathlib.Core.List.{[]}
+use mathlib.Core.Path.{◌≡◌, refl, ap, sym, ◌∙◌}
+use Prim.Native.Nat.{◌+◌, ◌-◌, ◌*◌}
+use native.Mathlib.Omega.{arith}
+use Rattle.rules.specs.Scan.Landing.{stops, lands}
+use Rattle.rules.specs.Scan.Units.{zeros, units_at, units_fit, units_stop, units_none}
+use Rattle.meter.proofs.Stores.{room_holds, room_one, room_ends, units_full}
+use Rattle.meter.proofs.pass_units.Goals as goal
+
+pub returns-then-m-t : goal.returns-then-m-t
+returns-then-m-t c =
+    let both = stops _ _ _ _ _ (units_full _ _ _ _ c.if-m-t.true) c.refused.ensures in
+    record { answers = both.0; writes = both.1 }
+
+pub returns-then-n-eq0 : goal.returns-then-n-eq0
+returns-then-n-eq0 c =
+    let both = let z : c.args.n * (c.args.more + 1) ≡ 0 = rw c.if-n-eq0.true (omega arith) in
+    lands _ _ _ [] _ _ _ (ap (units_at _ _ _) z ∙ sym (units_none _ _ _ (omega (arith, c.if-m-t.false)))) refl refl in
+    record { answers = both.0; writes = both.1 }
+
+pub returns-then-left-n : goal.returns-then-left-n
+returns-then-left-n c =
+    let both = let start = c.args in
+    let full = room_ends start.n start.more c.room-left.result c.if-n-eq0.false c.if-left-n.true in
+    lands _ _ _ (zeros (start.m.limits.cells - start.m.totals.cells)) _ _ _
+    (units_stop _ _ _ _ (omega (arith, full, c.if-m-t.false, c.room-left.ensures))) c.refused-then-left-n.ensures
+    (rw c.room-left.ensures at c.store_zeros.ensures) in
+    record { answers = both.0; writes = both.1 }
+
+pub overflow_add-all : goal.overflow_add-all
+overflow_add-all c = omega (arith, room_one c.args.n c.args.more c.room-left.result c.if-left-n.false)
+
+pub overflow_mul-all : goal.overflow_mul-all
+overflow_mul-all c = omega (arith, room_holds c.args.n c.args.more c.room-left.result c.if-n-eq0.false c.if-left-n.false, c.room-left.ensures)
+
+pub overflow_add-result : goal.overflow_add-result
+overflow_add-result c = omega (arith, room_holds c.args.n c.args.more c.room-left.result c.if-n-eq0.false c.if-left-n.false, c.room-left.ensures, c.if-m-t.false)
+
+pub returns : goal.returns
+returns c =
+    let both = let start = c.args in
+    let fits = room_holds start.n start.more c.room-left.result c.if-n-eq0.false c.if-left-n.false in
+    lands _ _ _ (zeros (start.n * (start.more + 1))) _ _ _
+    (units_fit _ _ _ _ (omega (arith, fits, c.room-left.ensures, c.if-m-t.false))) refl
+    c.store_zeros-2.ensures in
+    record { answers = both.0; writes = both.1 }

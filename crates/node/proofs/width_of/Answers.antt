@@ -1,0 +1,30 @@
+-- `width_of` meets its contract: each arm fixes the number. Assumes nothing.
+use borrow.Author.Tests.{ne_eqb}
+use Rattle.node.specs.Nodes.{width_named}
+use Rattle.node.proofs.width_of.Goals as goal
+
+pub returns-in-1 : goal.returns-in-1
+unfolding width_named
+returns-in-1 c = rw c.in-1.is
+
+pub returns-in-2 : goal.returns-in-2
+unfolding width_named
+returns-in-2 c = rw c.in-2.is
+
+pub returns-in-4 : goal.returns-in-4
+unfolding width_named
+returns-in-4 c = rw c.in-4.is
+
+pub returns-in-8 : goal.returns-in-8
+unfolding width_named
+returns-in-8 c = rw c.in-8.is
+
+pub returns-in-16 : goal.returns-in-16
+unfolding width_named
+returns-in-16 c = rw c.in-16.is
+
+pub returns-in_default : goal.returns-in_default
+unfolding width_named
+returns-in_default c =
+    let no = c.in-1.rest in
+    rw (ne_eqb _ 1 no.0.0.0.0.1, ne_eqb _ 2 no.0.0.0.1, ne_eqb _ 4 no.0.0.1, ne_eqb _ 8 no.0.1, ne_eqb _ 16 no.1)
