@@ -3,7 +3,7 @@
 ghost use Rattle.std.specs.Prelude.{◌≡◌};
 ghost use Rattle.rules.specs.Put.{put, put_of};
 ghost use Rattle.rules.specs.Table.{ty_at};
-ghost use Rattle.rules.specs.Types.{array, option, result, pair, vector};
+ghost use Rattle.rules.specs.Types.{array, option, result as result_type, pair, vector};
 ghost use Rattle.put.specs.Written.{Puttable, Landed};
 
 use crate::because;
