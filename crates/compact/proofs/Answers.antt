@@ -7,7 +7,7 @@ use borrow.Author.Tests.{leb-true, leb-false, le-leb, lt-leb, le-ltb}
 use lib.Dec.{leb}
 use Rattle.rules.specs.Basics.{pick}
 use Rattle.rules.specs.Compact.{significant, fits, Answer, value, range, settled}
-use Rattle.rules.specs.Compact.Answers.{lt_fits, settled_yes, settled_low}
+use Rattle.rules.proofs.Laws.Compact.Answers.{lt_fits, settled_yes, settled_low}
 use Rattle.compact.specs.declared.Reading.TheVariants.{Value, Range}
 use Rattle.compact.specs.Halves.{whole, in_halves}
 use Rattle.compact.specs.Laws.{in_halves_lem}

@@ -7,8 +7,9 @@ use Rattle.rules.specs.declared.Width.TheVariants.{W1, W2, W4, W8, W16}
 use Rattle.rules.specs.Basics.{Under}
 use Rattle.rules.specs.Types.{size}
 use Rattle.rules.specs.Compact.{Answer, value, short, prefix, range, compact_from}
-use Rattle.rules.specs.Compact.Answers.{fits_lt}
-use Rattle.rules.specs.Compact.Law.{Opens, compact_took, compact_exactly}
+use Rattle.rules.proofs.Laws.Compact.Answers.{fits_lt}
+use Rattle.rules.specs.Compact.Law.{Opens}
+use Rattle.rules.proofs.Laws.Compact.Law.{compact_took, compact_exactly}
 use Rattle.compact.specs.declared.Reading.{Reading}
 use Rattle.compact.specs.declared.Reading.TheVariants.{Value, Short, Prefix, Range}
 use Rattle.compact.specs.Halves.{whole, in_halves, said, fields, refused}

@@ -5,7 +5,8 @@ use Rattle.std.proofs.Math.Decide.{dec_lt}
 use Rattle.std.specs.Int.Count.{count_leading_zeros, leading_of_zero}
 use Rattle.std.proofs.lemmas.Nat.{leading_top}
 use Rattle.rules.specs.Compact.{significant_in, significant}
-use Rattle.rules.specs.Compact.Sizes.{Has, significant_is, significant_ge, significant_lt}
+use Rattle.rules.specs.Compact.Sizes.{Has}
+use Rattle.rules.proofs.Laws.Compact.Sizes.{significant_is, significant_ge, significant_lt}
 use Rattle.compact.specs.Halves.{whole}
 use Rattle.compact.specs.Laws.{whole_lt}
 

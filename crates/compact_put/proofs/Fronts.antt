@@ -5,7 +5,7 @@ use Prim.Native.Nat.{ℕ, ◌+◌, ◌-◌, ◌≤◌, ◌<◌}
 use native.Mathlib.Omega.{arith}
 use lib.ListN.{length, drop, take, length-take, get_or, set}
 use lib.Seq.{take-add, sets}
-use Rattle.rules.specs.Places.{sets_out, sets_join, sets_next}
+use Rattle.rules.proofs.Laws.Places.{sets_out, sets_join, sets_next}
 use Rattle.compact_put.specs.declared.Encoded.{Encoded}
 use Rattle.compact_put.specs.Padded.{padded}
 use Rattle.compact_put.specs.Laws.{written_len, written_front}

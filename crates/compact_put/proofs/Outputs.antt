@@ -10,9 +10,9 @@ use lib.ListN.{length, drop, set, replicate, length-append, length-replicate, re
 use lib.Seq.{sets, drop_at}
 use Rattle.rules.specs.Bytes.{le_bytes}
 use Rattle.rules.specs.Compact.{significant, long, compact_bytes}
-use Rattle.rules.specs.Compact.Sizes.{significant_4}
-use Rattle.rules.specs.Compact.Encoding.{encode_0, encode_1, encode_2, length_long}
-use Rattle.rules.specs.Places.{sets_onto}
+use Rattle.rules.proofs.Laws.Compact.Sizes.{significant_4}
+use Rattle.rules.proofs.Laws.Compact.Encoding.{encode_0, encode_1, encode_2, length_long}
+use Rattle.rules.proofs.Laws.Places.{sets_onto}
 use Rattle.number.specs.Laws.{bytes_split}
 use Rattle.compact_put.specs.declared.Encoded.{Encoded}
 use Rattle.compact.specs.Halves.{whole}

@@ -6,9 +6,9 @@ use Rattle.rules.specs.declared.Width.{Width}
 use Rattle.rules.specs.Types.{size}
 use Rattle.rules.specs.Totals.{longest_compact}
 use Rattle.rules.specs.Compact.{compact_bytes, compact_from}
-use Rattle.rules.specs.Compact.Answers.{lt_fits}
-use Rattle.rules.specs.Compact.Law.{compact_reads}
-use Rattle.rules.specs.Compact.Bound.{compact_longest}
+use Rattle.rules.proofs.Laws.Compact.Answers.{lt_fits}
+use Rattle.rules.proofs.Laws.Compact.Law.{compact_reads}
+use Rattle.rules.proofs.Laws.Compact.Bound.{compact_longest}
 use Rattle.compact.specs.declared.Reading.TheVariants.{Value}
 use Rattle.compact.specs.Halves.{whole, in_halves}
 use Rattle.compact.specs.Laws.{in_halves_lem, size_le}

@@ -7,9 +7,10 @@ use borrow.Author.Tests.{lt-ltb, le-ltb}
 use lib.ListN.{length}
 use lib.Seq.{sets}
 use Rattle.rules.specs.Basics.{pick}
-use Rattle.rules.specs.Demands.{Decided, scanned_fit}
+use Rattle.rules.specs.Demands.{Decided}
+use Rattle.rules.proofs.Laws.Demands.{scanned_fit}
 use Rattle.rules.specs.Jobs.{cut_to, cells_after}
-use Rattle.rules.specs.Places.{sets_onto}
+use Rattle.rules.proofs.Laws.Places.{sets_onto}
 use Rattle.rules.specs.Refusals.{bytes_left_at}
 use Rattle.rules.specs.Scan.{scanned, filling}
 use Rattle.rules.specs.Table.{root, after_check}

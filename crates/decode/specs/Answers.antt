@@ -5,14 +5,18 @@ use Rattle.std.proofs.Math.Logic.{⊎_elim}
 use Rattle.std.proofs.Math.Path.{ap, sym}
 use Rattle.rules.specs.Basics.{pick, onto}
 use Rattle.rules.specs.Cells.{cells}
-use Rattle.rules.specs.Demands.{front_accepts, front_accepted, front_cells, whole_accepts, whole_accepted, front_wider, whole_wider, cut_wider, front_grown, Decided, front_decided, whole_decided, whole_fills}
+use Rattle.rules.specs.Demands.{Decided}
+use Rattle.rules.proofs.Laws.Demands.{front_accepts, front_accepted, front_cells, whole_accepts, whole_accepted, front_wider, whole_wider, cut_wider, front_grown, front_decided, whole_decided, whole_fills}
 use Rattle.rules.specs.Jobs.{read_front, read_whole, cut_to, cells_after, read_fields}
 use Rattle.rules.specs.Refusals.{bytes_left_at}
 use Rattle.rules.specs.Scan.{scan, scanned, filling}
-use Rattle.rules.specs.Scan.Accept.{Accepted, answer, passed}
+use Rattle.rules.specs.Scan.Accept.{Accepted, answer}
+use Rattle.rules.proofs.Laws.Scan.Accept.{passed}
 use Rattle.rules.specs.Scan.Barred.{Wider}
-use Rattle.rules.specs.Scan.Refuse.{Refuses, scan_refused, scan_refuses}
-use Rattle.rules.specs.Scan.Steady.{ByLimit, scanned_wider, Short, scanned_grown}
+use Rattle.rules.specs.Scan.Refuse.{Refuses}
+use Rattle.rules.proofs.Laws.Scan.Refuse.{scan_refused, scan_refuses}
+use Rattle.rules.specs.Scan.Steady.{ByLimit, Short}
+use Rattle.rules.proofs.Laws.Scan.Steady.{scanned_wider, scanned_grown}
 use Rattle.rules.specs.Table.{root, check_table, after_check}
 use Rattle.rules.specs.Table.Laws.{Good}
 use Rattle.rules.specs.Totals.{nesting, charge}

@@ -8,16 +8,19 @@ use Rattle.std.proofs.Math.Dec.{ltb}
 use Rattle.std.proofs.Math.ListN.{length}
 use Rattle.rules.specs.Basics.{pick, Under, onto}
 use Rattle.rules.specs.Cells.{cells, unpack}
-use Rattle.rules.specs.Demands.{front_accepts, front_accepted, front_cells, output_writes, Wrote, output_wrote}
-use Rattle.rules.specs.Form.Laws.{reads}
+use Rattle.rules.specs.Demands.{Wrote}
+use Rattle.rules.proofs.Laws.Demands.{front_accepts, front_accepted, front_cells, output_writes, output_wrote}
+use Rattle.rules.proofs.Laws.Form.{reads}
 use Rattle.rules.specs.Jobs.{read_front, Output, wrote, not, fitted, put_out, output, write_cells, written_of, output_after, written_fields}
 use Rattle.rules.specs.Parser.{Res, got, bad}
 use Rattle.rules.specs.Refusals.{output_small, cells_left_at}
-use Rattle.rules.specs.RoundTrip.{read_written, Back, written_back, unpack_cells}
+use Rattle.rules.specs.RoundTrip.{Back}
+use Rattle.rules.proofs.Laws.RoundTrip.{read_written, written_back, unpack_cells}
 use Rattle.rules.specs.Scan.{scanned}
 use Rattle.rules.specs.Scan.Accept.{Accepted, answer}
 use Rattle.rules.specs.Table.{root, check_table, after_check, as_longest, longest_of}
-use Rattle.rules.specs.Table.Laws.{Good, check_good, good_check}
+use Rattle.rules.specs.Table.Laws.{Good}
+use Rattle.rules.proofs.Laws.Table.{check_good, good_check}
 use Rattle.rules.specs.Totals.{longest, nesting, charge, vectors}
 use Rattle.rules.specs.Totals.Bound.{AtMost}
 use Rattle.rules.specs.Types.{Val, Fits}

@@ -17,21 +17,22 @@ use Rattle.compact.specs.declared.Reading.{Reading}
 use Rattle.compact.specs.declared.Reading.TheVariants.{Value}
 use Rattle.rules.specs.contracts.Node.{the_type as node-type}
 use Rattle.rules.specs.Basics.{pick, Under, flat}
-use Rattle.rules.specs.Bytes.Laws.{under_take}
+use Rattle.rules.proofs.Laws.Bytes.{under_take}
 use Rattle.rules.specs.Cells.{unpack}
 use Rattle.rules.specs.Compact.{compact_bytes, Answer, value, short, prefix, range, compact_from}
-use Rattle.rules.specs.Compact.Bound.{compact_longest, larger_longer}
-use Rattle.rules.specs.Compact.Law.{compact_opens, compact_took}
+use Rattle.rules.proofs.Laws.Compact.Bound.{compact_longest, larger_longer}
+use Rattle.rules.proofs.Laws.Compact.Law.{compact_opens, compact_took}
 use Rattle.rules.specs.Form.{write, parse}
 use Rattle.rules.specs.Jobs.{Output, wrote, not, put_out, output, of_vector, write_items, written_of, old_count, joined, append_from, append_items, append_to, append}
 use Rattle.rules.specs.Parser.{Res, got, bad, times}
-use Rattle.rules.specs.Put.{put, put_out_lem, put_most, output_put}
+use Rattle.rules.specs.Put.{put}
+use Rattle.rules.proofs.Laws.Put.{put_out_lem, put_most, output_put}
 use Rattle.rules.specs.Refusals.{output_small, cells_left_at, append_root, append_used, append_head, append_count, max_count}
 use Rattle.rules.specs.Table.{count, node_in, build, ty_at, root, check_table, after_check}
-use Rattle.rules.specs.Table.Laws.{check_good, type_node}
+use Rattle.rules.proofs.Laws.Table.{check_good, type_node}
 use Rattle.rules.specs.Types.{Ty, leaf, nothing, result, pair, array, vector, bits, size}
 use Rattle.rules.specs.Wire.{leaf_bytes, encode, placed, leaf_from}
-use Rattle.rules.specs.Wire.Laws.{placed_says}
+use Rattle.rules.proofs.Laws.Wire.{placed_says}
 use Rattle.rules.specs.declared.Check.{Check}
 use Rattle.rules.specs.declared.Check.TheVariants.{Fine as fine, Refused as wrong}
 use Rattle.rules.specs.declared.Node.{Node}

@@ -8,7 +8,7 @@ use lib.Seq.{length-take-le}
 use Rattle.rules.specs.Basics.{onto}
 use Rattle.rules.specs.Compact.{compact_bytes}
 use Rattle.rules.specs.Jobs.{Output, not, write_items, written_of, output_after, append}
-use Rattle.rules.specs.Places.{part_rest}
+use Rattle.rules.proofs.Laws.Places.{part_rest}
 use Rattle.rules.specs.declared.Refusal.{Refusal}
 use Rattle.rules.specs.declared.Written.TheVariants.{Bytes as wroteBytes, Refused as notWritten}
 use Rattle.encode_append.proofs.Moving.{behind_front}

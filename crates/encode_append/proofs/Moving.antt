@@ -8,7 +8,7 @@ use lib.Seq.{take_at, length-take-le, drop_at, get_or-drop, sets, sets-eq, drop-
 use Rattle.compact.specs.Halves.{whole}
 use Rattle.rules.specs.Basics.{onto}
 use Rattle.rules.specs.Compact.{compact_bytes}
-use Rattle.rules.specs.Places.{sets_length, sets_join, sets_set, sets_onto, part_rest, drop_take}
+use Rattle.rules.proofs.Laws.Places.{sets_length, sets_join, sets_set, sets_onto, part_rest, drop_take}
 
 -- ---- moving up
 

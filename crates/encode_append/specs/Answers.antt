@@ -7,17 +7,17 @@ use native.Mathlib.Omega.{arith}
 use Rattle.std.proofs.lemmas.Bool.{lt-leb}
 use Rattle.std.proofs.Math.ListN.{length}
 use Rattle.std.proofs.Math.Seq.{take_all}
-use Rattle.rules.specs.Append.{items_taken, append_first, append_none, append_at, appended_joins}
+use Rattle.rules.proofs.Laws.Append.{items_taken, append_first, append_none, append_at, appended_joins}
 use Rattle.rules.specs.Basics.{pick, All, Under, flat, onto}
 use Rattle.rules.specs.Bytes.{le_bytes}
-use Rattle.rules.specs.Bytes.Laws.{under_take}
+use Rattle.rules.proofs.Laws.Bytes.{under_take}
 use Rattle.rules.specs.Cells.{cells, unpack}
 use Rattle.rules.specs.Compact.{compact_bytes}
 use Rattle.rules.specs.Form.{write, parse}
 use Rattle.rules.specs.Jobs.{Output, wrote, not, fitted, put_out, of_vector, written_of, output_after, old_count, joined, append_from, append_items, append_to, append}
 use Rattle.rules.specs.Parser.{Res, got, bad, times}
 use Rattle.rules.specs.Refusals.{output_small, cells_left_at, append_root, append_used, append_head, append_count, max_count}
-use Rattle.rules.specs.RoundTrip.{cells_unpacked}
+use Rattle.rules.proofs.Laws.RoundTrip.{cells_unpacked}
 use Rattle.rules.specs.Table.{root, check_table, after_check}
 use Rattle.rules.specs.Types.{Ty, leaf, nothing, result, pair, array, vector, bits, Val, Fits}
 use Rattle.rules.specs.Wire.{leaf_bytes, encode, leaf_from}

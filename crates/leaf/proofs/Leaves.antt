@@ -20,7 +20,7 @@ use Rattle.rules.specs.Parser.{Res, got, bad}
 use Rattle.rules.specs.Refusals.{short_at, tag_at}
 use Rattle.rules.specs.Types.{size}
 use Rattle.rules.specs.Wire.{byte_from, number_from, placed, leaf_from}
-use Rattle.rules.specs.Wire.Laws.{whole_there, whole_short}
+use Rattle.rules.proofs.Laws.Wire.{whole_there, whole_short}
 use Rattle.rules.specs.declared.Leaf.{Leaf}
 use Rattle.rules.specs.declared.Leaf.TheVariants.{Fixed as fixed, Compact as compact}
 use Rattle.rules.specs.declared.Refusal.{Refusal}

@@ -12,13 +12,13 @@ use Rattle.bit_vec.specs.Moves.{bytes_written, clear_cells}
 use Rattle.compact.specs.Halves.{whole}
 use Rattle.rules.specs.Basics.{pick}
 use Rattle.rules.specs.Bits.{words8, words64, pack, lanes, clear}
-use Rattle.rules.specs.Bits.Laws.{length_pack, length_lanes}
+use Rattle.rules.proofs.Laws.Bits.{length_pack, length_lanes}
 use Rattle.rules.specs.Cells.{bits_taken}
 use Rattle.rules.specs.Compact.{compact_bytes}
-use Rattle.rules.specs.Compact.Bound.{compact_longest}
+use Rattle.rules.proofs.Laws.Compact.Bound.{compact_longest}
 use Rattle.rules.specs.Form.{write, parse}
 use Rattle.rules.specs.Parser.{Res, got, bad}
-use Rattle.rules.specs.Places.{sets_length, sets_join}
+use Rattle.rules.proofs.Laws.Places.{sets_length, sets_join}
 use Rattle.rules.specs.Put.{put}
 use Rattle.rules.specs.Refusals.{bit_count_at, cells_end_at, unfit_at, max_bits}
 use Rattle.rules.specs.Scan.{sat}

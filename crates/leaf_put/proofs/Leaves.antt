@@ -12,13 +12,13 @@ use Rattle.compact.specs.Laws.{low_only}
 use Rattle.number.specs.Laws.{two_puts}
 use Rattle.rules.specs.Basics.{pick, Under}
 use Rattle.rules.specs.Bytes.{le_bytes}
-use Rattle.rules.specs.Bytes.Laws.{length_bytes}
+use Rattle.rules.proofs.Laws.Bytes.{length_bytes}
 use Rattle.rules.specs.Cells.{two, wide, one, halves, leaf_taken}
 use Rattle.rules.specs.Form.{parse}
 use Rattle.rules.specs.Parser.{Res, got, bad}
-use Rattle.rules.specs.Places.{sets_length}
+use Rattle.rules.proofs.Laws.Places.{sets_length}
 use Rattle.rules.specs.Refusals.{cells_end_at, unfit_at}
-use Rattle.rules.specs.RoundTrip.{cells_unpacked}
+use Rattle.rules.proofs.Laws.RoundTrip.{cells_unpacked}
 use Rattle.rules.specs.Scan.{sat}
 use Rattle.rules.specs.Types.{size, leaf, bound}
 use Rattle.rules.specs.Wire.{leaf_bytes}

@@ -9,7 +9,7 @@ use lib.Dec.{ltb}
 use lib.ListN.{length}
 use lib.Seq.{sets}
 use Rattle.rules.specs.Parser.{Res, got, bad, map_res}
-use Rattle.rules.specs.Places.{sets_out}
+use Rattle.rules.proofs.Laws.Places.{sets_out}
 use Rattle.rules.specs.Put.{put_of}
 use Rattle.rules.specs.Scan.{sat}
 use Rattle.rules.specs.declared.Put.{Put}

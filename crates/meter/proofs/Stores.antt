@@ -9,7 +9,8 @@ use lib.ListN.{set}
 use lib.Seq.{sets}
 use Rattle.rules.specs.Refusals.{room_at}
 use Rattle.rules.specs.Scan.Pass.{pass_none}
-use Rattle.rules.specs.Scan.Units.{zeros, units_at, units_stop}
+use Rattle.rules.specs.Scan.Units.{zeros, units_at}
+use Rattle.rules.proofs.Laws.Scan.Units.{units_stop}
 use Rattle.rules.specs.declared.Limits.{Limits}
 use Rattle.rules.specs.declared.Scan.TheVariants.{Refused as stopped}
 use Rattle.rules.specs.declared.Totals.{Totals}

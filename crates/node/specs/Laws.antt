@@ -5,7 +5,8 @@ use types.Run.{OneOf, miss}
 use Rattle.rules.specs.Basics.{pick}
 use Rattle.rules.specs.Types.{Ty}
 use Rattle.rules.specs.Table.{count, with_width, node_at, node_in, build, ty_at}
-use Rattle.rules.specs.Table.Laws.{Below, Good, type_node}
+use Rattle.rules.specs.Table.Laws.{Below, Good}
+use Rattle.rules.proofs.Laws.Table.{type_node}
 use Rattle.rules.specs.Jobs.{of_vector}
 use Rattle.node.specs.declared.Named.{Named}
 use Rattle.node.specs.declared.Named.TheVariants.{Width as named, Nothing as unnamed}

@@ -7,8 +7,8 @@ use Rattle.std.proofs.Math.Seq.{take-nil}
 use Rattle.std.proofs.lemmas.List.Edits.{sets}
 use Rattle.rules.specs.Basics.{Under}
 use Rattle.rules.specs.Bytes.{le_value, le_bytes}
-use Rattle.rules.specs.Bytes.Laws.{pow8, value_lt, length_bytes}
-use Rattle.rules.specs.Places.{part_rest, sets_join}
+use Rattle.rules.proofs.Laws.Bytes.{pow8, value_lt, length_bytes}
+use Rattle.rules.proofs.Laws.Places.{part_rest, sets_join}
 
 -- ---- reading
 

@@ -10,11 +10,11 @@ use types.Run.{OneOf}
 use Rattle.rules.specs.Basics.{pick, Under}
 use Rattle.rules.specs.Jobs.{wrote, not, fitted, put_out, of_vector, output_after}
 use Rattle.rules.specs.Parser.{Res, got, bad}
-use Rattle.rules.specs.Places.{sets_onto}
+use Rattle.rules.proofs.Laws.Places.{sets_onto}
 use Rattle.rules.specs.Put.{put, put_of}
 use Rattle.rules.specs.Refusals.{output_small, cells_left_at, append_root}
 use Rattle.rules.specs.Table.{count, node_in, build, ty_at, root, check_table}
-use Rattle.rules.specs.Table.Laws.{check_good}
+use Rattle.rules.proofs.Laws.Table.{check_good}
 use Rattle.rules.specs.Types.{array}
 use Rattle.rules.specs.declared.Check.TheVariants.{Fine as fine, Refused as wrong}
 use Rattle.rules.specs.declared.Node.{Node}

@@ -6,7 +6,8 @@ use native.Mathlib.Omega.{arith}
 use lib.ListN.{length}
 use Rattle.leaf_put.specs.Landed.{landed_of}
 use Rattle.rules.specs.Parser.{Res, got, bad, Parser}
-use Rattle.rules.specs.Put.{put, put_of, put_most}
+use Rattle.rules.specs.Put.{put, put_of}
+use Rattle.rules.proofs.Laws.Put.{put_most}
 use Rattle.rules.specs.Put.Relative.{shifted, Within, Relative}
 use Rattle.rules.specs.Refusals.{because}
 use Rattle.rules.specs.Types.{Ty}

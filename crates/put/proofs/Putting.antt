@@ -6,7 +6,7 @@ use native.Mathlib.Omega.{arith}
 use lib.ListN.{length, length-append}
 use lib.Seq.{sets}
 use Rattle.rules.specs.Parser.{Res, got, bad, more, next, map_res}
-use Rattle.rules.specs.Places.{sets_join}
+use Rattle.rules.proofs.Laws.Places.{sets_join}
 use Rattle.rules.specs.Put.{ahead, put_of}
 use Rattle.rules.specs.declared.Put.{Put}
 use Rattle.rules.specs.declared.Put.TheVariants.{Done as putDone, Refused as putNot}

@@ -7,11 +7,12 @@ use native.Mathlib.Omega.{arith}
 use lib.Dec.{ltb}
 use lib.ListN.{length, drop, take, length-drop, get_or}
 use Rattle.rules.specs.Basics.{pick, choose}
-use Rattle.rules.specs.Bytes.Laws.{under_drop}
+use Rattle.rules.proofs.Laws.Bytes.{under_drop}
 use Rattle.rules.specs.Cells.{wide, one, halves, leaf_taken, unpack}
 use Rattle.rules.specs.Parser.{Res, got, bad, Parser, map_res}
-use Rattle.rules.specs.Places.{sets_length, part_rest}
-use Rattle.rules.specs.Put.{put, ahead, put_leaf, put_of, put_leaf_lem, put_nothing, put_pair, put_none, put_more, put_vector, put_result, put_most}
+use Rattle.rules.proofs.Laws.Places.{sets_length, part_rest}
+use Rattle.rules.specs.Put.{put, ahead, put_leaf, put_of}
+use Rattle.rules.proofs.Laws.Put.{put_leaf_lem, put_nothing, put_pair, put_none, put_more, put_vector, put_result, put_most}
 use Rattle.rules.specs.Refusals.{unfit_at}
 use Rattle.rules.specs.Table.{node_in, build, ty_at}
 use Rattle.rules.specs.Table.Laws.{Below}

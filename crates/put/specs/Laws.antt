@@ -4,7 +4,8 @@ use Rattle.std.proofs.Math.Path.{refl}
 use Rattle.std.proofs.Common.{ap, sym, ◌∙◌}
 use Rattle.rules.specs.Jobs.{not, put_out, output, write_cells, of_vector, write_items}
 use Rattle.rules.specs.Parser.{bad}
-use Rattle.rules.specs.Put.{put, output_put}
+use Rattle.rules.specs.Put.{put}
+use Rattle.rules.proofs.Laws.Put.{output_put}
 use Rattle.rules.specs.Refusals.{append_root}
 use Rattle.rules.specs.Table.{root, check_table, after_check}
 use Rattle.rules.specs.Types.{Ty, leaf, nothing, result, pair, array, vector, bits}

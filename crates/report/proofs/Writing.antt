@@ -8,7 +8,7 @@ use native.Mathlib.Omega.{arith}
 use lib.ListN.{length, take, get_or, set, length-append, length-take}
 use lib.Seq.{sets, take-suc, take_all}
 use Rattle.rules.specs.Basics.{flat}
-use Rattle.rules.specs.Places.{sets_join, sets_length}
+use Rattle.rules.proofs.Laws.Places.{sets_join, sets_length}
 use Rattle.report.specs.Text.{spaced, cell_line}
 use Rattle.report.specs.Puts.{Puts, ended}
 use Rattle.report.specs.Answers.{cells_length}

@@ -4,12 +4,13 @@ use Rattle.std.proofs.Common.{ap, sym, ◌∙◌, arith, length-append, take_at}
 use Rattle.std.proofs.lemmas.List.Edits.{sets}
 use Rattle.rules.specs.Basics.{flat, onto}
 use Rattle.rules.specs.Cells.{cells}
-use Rattle.rules.specs.Demands.{whole_accepts, whole_accepted, whole_decided}
+use Rattle.rules.proofs.Laws.Demands.{whole_accepts, whole_accepted, whole_decided}
 use Rattle.rules.specs.Jobs.{read_whole}
 use Rattle.rules.specs.Parser.{got}
-use Rattle.rules.specs.Places.{sets_onto}
+use Rattle.rules.proofs.Laws.Places.{sets_onto}
 use Rattle.rules.specs.Scan.{scanned}
-use Rattle.rules.specs.Scan.Accept.{Accepted, answer, passed}
+use Rattle.rules.specs.Scan.Accept.{Accepted, answer}
+use Rattle.rules.proofs.Laws.Scan.Accept.{passed}
 use Rattle.rules.specs.Table.{root}
 use Rattle.rules.specs.Table.Laws.{Good}
 use Rattle.rules.specs.Types.{Val}

@@ -5,7 +5,8 @@ use Rattle.std.proofs.Common.{ap, sym, ◌∙◌, le_refl, arith, take_all}
 use Rattle.std.proofs.lemmas.List.{take-append-le}
 use Rattle.rules.specs.Basics.{Under, onto}
 use Rattle.rules.specs.Cells.{cells}
-use Rattle.rules.specs.Demands.{Wrote, front_cells}
+use Rattle.rules.specs.Demands.{Wrote}
+use Rattle.rules.proofs.Laws.Demands.{front_cells}
 use Rattle.rules.specs.Jobs.{read_front, cut_to, cells_after, write_cells}
 use Rattle.rules.specs.RoundTrip.{Back}
 use Rattle.rules.specs.Scan.{scanned}

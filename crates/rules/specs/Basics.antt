@@ -1,6 +1,5 @@
 -- Small words that the definitions use: a choice by a test, what holds of each element, and sums over a list.
-use Rattle.std.specs.Prelude.{Bool, true, false, List, ◌++◌, [], ◌∷◌, ◌≡◌, ℕ, zero, suc, ◌+◌, max, ◌<◌, length, drop, get_or}
-use Rattle.std.proofs.Common.{sym, ◌∙◌}
+use Rattle.std.specs.Prelude.{Bool, true, false, List, ◌++◌, [], ◌∷◌, ℕ, zero, suc, ◌+◌, max, ◌<◌, length, drop, get_or}
 
 -- the first where the test holds, else the second
 abbrev pub pick : {A : Type 0} → Bool → A → A → A
@@ -36,7 +35,3 @@ highest f (x ∷ xs) = max (f x) (highest f xs)
 -- a list at the front of another, in place of as many elements there
 abbrev pub onto : List ℕ → List ℕ → List ℕ
 onto l m = l ++ drop (length l) m
-
--- a contract of the form `r ≡ x` allows one answer
-pub one_answer : {A : Type 0} (x r r' : A) → r ≡ x → r' ≡ x → r ≡ r'
-one_answer x r r' e f = e ∙ sym f

@@ -1,18 +1,10 @@
 -- The starred plans of the bench as one table, and the one statement that the definitions answer each of them so.
-use Rattle.std.specs.Prelude.{true, false, List, [], ◌∷◌, ◌≡◌, refl, ℕ, ◌-◌, ◌^◌, length}
+use Rattle.std.specs.Prelude.{true, false, List, [], ◌∷◌, ◌≡◌, ℕ, ◌-◌, ◌^◌, length}
 use Rattle.rules.specs.Refusals.{range_at, bit_count_at, depth_at, memory_at}
-use Rattle.rules.specs.Basics.{All}
 use Rattle.rules.specs.Types.{w2, w4, fixed, compact, Ty, leaf, vector, bits, Val}
-use Rattle.rules.specs.Bytes.{le_value, le_bytes}
-use Rattle.rules.specs.Compact.{significant_in, significant, long, compact_bytes, fits, settled, form0, form1, form2, form3, compact_from}
-use Rattle.rules.specs.Bits.{bits_value, digits, pack, lanes}
-use Rattle.rules.specs.Parser.{got, more, next, map_res, times}
-use Rattle.rules.specs.Form.{write, parse}
-use Rattle.rules.specs.Wire.{leaf_bytes, bits_bytes, encode, byte_from, whole, number_from, placed, leaf_from, lanes_in, lanes_from, bits_body, bits_from, read}
-use Rattle.rules.specs.Cells.{leaf_cells}
-use Rattle.rules.specs.Totals.{foot}
-use Rattle.rules.specs.Trace.{longer, ◌▷◌, repeat, on, lane_trace, trace}
-use Rattle.rules.specs.Scan.{Scan, done, stopped, barred, unless, finish, run, scan}
+use Rattle.rules.specs.Parser.{got}
+use Rattle.rules.specs.Wire.{encode, read}
+use Rattle.rules.specs.Scan.{Scan, done, stopped, scan}
 
 pub data Plan : Type 0 where
   -- a value, and the bytes that are written for it and read as it
@@ -27,10 +19,10 @@ Right (says t v s) = (encode t v ≡ s) × (read t 0 s ≡ got v (length s))
 Right (reads_as t s v) = read t 0 s ≡ got v (length s)
 Right (gives t s d m x) = scan t (record { depth = d; memory = m; cells = 9 }) s ≡ x
 
-abbrev number : ℕ → List ℕ → Plan
+abbrev pub number : ℕ → List ℕ → Plan
 number v s = says (leaf (compact w4)) v s
 
-abbrev shorts : Ty
+abbrev pub shorts : Ty
 shorts = vector (leaf (fixed w2))
 
 abbrev pub starred_plans : List Plan
@@ -50,7 +42,3 @@ starred_plans =
     ∷ gives shorts (0x00 ∷ []) 1 0 (stopped (memory_at 0))
     ∷ gives shorts (0x00 ∷ []) 1 1 (done (record { depth = 1; charge = 0; cells = 1 }) 1)
     ∷ []
-
-pub starred : All Right starred_plans
-unfolding le_value le_bytes significant_in significant long compact_bytes fits settled form0 form1 form2 form3 compact_from more next map_res times bits_value digits pack lanes write parse leaf_bytes bits_bytes byte_from whole number_from placed leaf_from lanes_in lanes_from bits_body bits_from leaf_cells foot longer ◌▷◌ repeat on lane_trace trace barred unless finish run scan
-starred = ((refl, refl), ((refl, refl), ((refl, refl), ((refl, refl), ((refl, refl), ((refl, refl), (refl, ((refl, refl), (refl, (refl, (refl, (refl, (refl, (refl, tt))))))))))))))

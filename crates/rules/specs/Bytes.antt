@@ -1,5 +1,4 @@
 -- Numbers as bytes, lowest byte first.
-pub mod Laws
 use Rattle.std.specs.Prelude.{List, [], ◌∷◌, ℕ, zero, suc, ◌+◌, ◌*◌, ◌/◌, ◌%◌}
 
 -- the number that a list of bytes says

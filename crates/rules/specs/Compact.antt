@@ -1,9 +1,6 @@
 -- The written rule of SCALE compact numbers, over naturals and lists of bytes, once for every width. A width is a count of bytes.
 pub mod Sizes
-pub mod Encoding
-pub mod Answers
 pub mod Law
-pub mod Bound
 pub mod Grow
 use Rattle.std.specs.Prelude.{Bool, List, [], ◌∷◌, ℕ, zero, suc, ◌+◌, ◌-◌, ◌*◌, ◌/◌, ◌%◌, ◌^◌, max, ltb, leb, eqb, length, take}
 use Rattle.rules.specs.Basics.{pick}

@@ -5,7 +5,6 @@
 --   The laws stand in the modules below these, named after what they say; RoundTrip, Demands, Append and Bench stand by themselves. docs/PROMISES.md lists them.
 pub mod Refusals
 pub mod Basics
-pub mod Places
 pub mod Types
 pub mod Bytes
 pub mod Compact
@@ -21,6 +20,5 @@ pub mod Table
 pub mod RoundTrip
 pub mod Jobs
 pub mod Put
-pub mod Append
 pub mod Demands
 pub mod Bench

@@ -9,7 +9,6 @@ pub mod Held
 pub mod Units
 pub mod Single
 pub mod Landing
-pub mod Walk
 use Rattle.std.specs.Prelude.{List, ◌++◌, [], ◌∷◌, ℕ, ◌+◌, ◌-◌, ◌^◌, max, min, ltb, leb, length}
 use Rattle.std.proofs.Math.Option.{none, some, Option}
 use Rattle.rules.specs.Refusals.{Refusal, depth_at, memory_at, room_at, bytes_left_at}

@@ -1,6 +1,5 @@
 -- The written rules over bytes. `encode t v` is what is written for a value, and `read t` what stands at the front of a message, with no limit in it.
 pub mod Laws
-pub mod Used
 use Rattle.std.specs.Prelude.{Bool, List, ◌++◌, [], ◌∷◌, ℕ, ltb, leb, length, take, replicate}
 use Rattle.rules.specs.Refusals.{Refusal, short_at, tag_at, prefix_at, range_at, bit_count_at, max_bits}
 use Rattle.rules.specs.Basics.{pick}

@@ -4,14 +4,16 @@ use mathlib.Core.Path.{◌≡◌, ap, sym, ◌∙◌}
 use Prim.Native.Nat.{ℕ, ◌+◌}
 use lib.Seq.{sets}
 use Rattle.rules.specs.Scan.Pass.{Pass, pass_none, passing, entry_pass, landed}
-use Rattle.rules.specs.Scan.Single.{Entering, entry_stopped, entry_done}
+use Rattle.rules.specs.Scan.Single.{Entering}
+use Rattle.rules.proofs.Laws.Scan.Single.{entry_stopped, entry_done}
 use Rattle.rules.specs.Trace.{Head, enter}
 use Rattle.rules.specs.declared.Limits.{Limits}
 use Rattle.rules.specs.declared.Refusal.{Refusal}
 use Rattle.rules.specs.declared.Scan.{Scan}
 use Rattle.rules.specs.declared.Scan.TheVariants.{Done as done, Refused as stopped}
 use Rattle.rules.specs.declared.Totals.{Totals}
-use Rattle.rules.specs.Scan.Landing.{Lands, lands_behind}
+use Rattle.rules.specs.Scan.Landing.{Lands}
+use Rattle.rules.proofs.Laws.Scan.Landing.{lands_behind}
 
 -- what was entered: the cells, and where it goes on
 module _ (lim : Limits) (st : Totals) (h : Head) (e : ℕ) (u : Totals) (e' : ℕ) (r : Scan) (l m : List ℕ) (f : Lands (entry_pass lim st h e) l st r m) where

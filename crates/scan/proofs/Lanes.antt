@@ -10,19 +10,20 @@ use Rattle.bit_vec.specs.Moves.{moved, stored, bits_read, cells_read}
 use Rattle.bit_vec.specs.declared.Moved.{Moved}
 use Rattle.bit_vec.specs.declared.Moved.TheVariants.{Took as took, Refused as refused}
 use Rattle.rules.specs.Bits.{words64}
-use Rattle.rules.specs.Places.{part_rest}
+use Rattle.rules.proofs.Laws.Places.{part_rest}
 use Rattle.rules.specs.Parser.{Res, got, bad}
 use Rattle.rules.specs.Wire.{lanes_from}
-use Rattle.rules.specs.Wire.Used.{lanes_used}
+use Rattle.rules.proofs.Laws.Wire.Used.{lanes_used}
 use Rattle.rules.specs.declared.Refusal.{Refusal}
 use Rattle.rules.specs.Scan.Pass.{landed, lanes_at}
-use Rattle.rules.specs.Scan.Single.{lanes_done, lanes_pass, lanes_pass_lem}
+use Rattle.rules.specs.Scan.Single.{lanes_done, lanes_pass}
+use Rattle.rules.proofs.Laws.Scan.Single.{lanes_pass_lem}
 use Rattle.rules.specs.Scan.Units.{plus_cells}
 use Rattle.rules.specs.declared.Limits.{Limits}
 use Rattle.rules.specs.declared.Scan.{Scan}
 use Rattle.rules.specs.declared.Scan.TheVariants.{Done as done, Refused as stopped}
 use Rattle.rules.specs.declared.Totals.{Totals}
-use Rattle.rules.specs.Scan.Landing.{same_pass_as}
+use Rattle.rules.proofs.Laws.Scan.Landing.{same_pass_as}
 
 module _ (n at e : ℕ) (s l m : List ℕ) (t : Totals) (q : Moved) (a : q ≡ bits_read n at s) (b : m ≡ cells_read n at s l t.cells) where
   pub lanes_refused : (y : Refusal) → q ≡ refused y → (stopped y ≡ (lanes_pass n at e s t).answer) × (m ≡ landed l t (lanes_pass n at e s t))

@@ -8,7 +8,7 @@ use Rattle.rules.specs.Cells.{leaf_cells}
 use Rattle.rules.specs.Scan.Pass.{pass_none, passing, plain_pass, headed, leaf_pass}
 use Rattle.rules.specs.Trace.{plain}
 use Rattle.rules.specs.Wire.{leaf_from}
-use Rattle.rules.specs.Wire.Used.{leaf_used}
+use Rattle.rules.proofs.Laws.Wire.Used.{leaf_used}
 use Rattle.rules.specs.declared.Leaf.{Leaf}
 use Rattle.rules.specs.declared.Limits.{Limits}
 use Rattle.rules.specs.declared.Refusal.{Refusal}

@@ -6,7 +6,8 @@ use lib.ListN.{replicate}
 use lib.Seq.{sets}
 use Rattle.rules.specs.Jobs.{read_front}
 use Rattle.rules.specs.Scan.{start, scan, scanned}
-use Rattle.rules.specs.Scan.Pass.{pass_at, landed, pass_front}
+use Rattle.rules.specs.Scan.Pass.{pass_at, landed}
+use Rattle.rules.proofs.Laws.Scan.Pass.{pass_front}
 use Rattle.rules.specs.Table.{count, ty_at, root, check_table, numbers_of, after_check, footprints_of}
 use Rattle.rules.specs.Totals.{foot}
 use Rattle.rules.specs.declared.Check.{Check}

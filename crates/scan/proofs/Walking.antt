@@ -9,23 +9,28 @@ use lib.ListN.{length, drop, take, length-drop, get_or}
 use lib.Seq.{sets}
 use Rattle.rules.specs.Basics.{choose}
 use Rattle.rules.specs.Compact.{compact_from}
-use Rattle.rules.specs.Compact.Answers.{fits_lt}
-use Rattle.rules.specs.Compact.Law.{compact_took}
+use Rattle.rules.proofs.Laws.Compact.Answers.{fits_lt}
+use Rattle.rules.proofs.Laws.Compact.Law.{compact_took}
 use Rattle.rules.specs.Parser.{got}
-use Rattle.rules.specs.Places.{part_rest}
+use Rattle.rules.proofs.Laws.Places.{part_rest}
 use Rattle.rules.specs.Refusals.{max_footprint}
-use Rattle.rules.specs.Scan.Held.{Held, pass_held}
-use Rattle.rules.specs.Scan.Pass.{Pass, Passer, pass_at, pass_none, behind, then_from, and_then, after, items, passing, entry_pass, landed, leaf_pass, pass_nothing, pass_pair}
-use Rattle.rules.specs.Scan.Single.{Entering, vector_counted}
-use Rattle.rules.specs.Scan.Units.{units_at, items_units}
-use Rattle.rules.specs.Scan.Walk.{result_then, tag_there, leaf_held, units_code, one_item}
+use Rattle.rules.specs.Scan.Held.{Held}
+use Rattle.rules.proofs.Laws.Scan.Held.{pass_held}
+use Rattle.rules.specs.Scan.Pass.{Pass, Passer, pass_at, pass_none, behind, then_from, and_then, after, items, passing, entry_pass, landed, leaf_pass}
+use Rattle.rules.proofs.Laws.Scan.Pass.{pass_nothing, pass_pair}
+use Rattle.rules.specs.Scan.Single.{Entering}
+use Rattle.rules.proofs.Laws.Scan.Single.{vector_counted}
+use Rattle.rules.specs.Scan.Units.{units_at}
+use Rattle.rules.proofs.Laws.Scan.Units.{items_units}
+use Rattle.rules.proofs.Laws.Scan.Walk.{result_then, tag_there, leaf_held, units_code, one_item}
 use Rattle.rules.specs.Table.{node_in, build, ty_at}
-use Rattle.rules.specs.Table.Laws.{Below, numbers_at, numbers_64, units_64}
+use Rattle.rules.specs.Table.Laws.{Below}
+use Rattle.rules.proofs.Laws.Table.{numbers_at, numbers_64, units_64}
 use Rattle.rules.specs.Totals.{foot, unit_cells}
 use Rattle.rules.specs.Trace.{Head, vector_head}
 use Rattle.rules.specs.Types.{Ty, nothing, result, pair, vector, option}
 use Rattle.rules.specs.Wire.{leaf_from}
-use Rattle.rules.specs.Wire.Laws.{placed_says}
+use Rattle.rules.proofs.Laws.Wire.{placed_says}
 use Rattle.rules.specs.declared.Leaf.TheVariants.{Bool as bool, Compact as compact}
 use Rattle.rules.specs.declared.Limits.{Limits}
 use Rattle.rules.specs.declared.Node.{Node}
@@ -37,8 +42,9 @@ use Rattle.rules.specs.declared.Width.TheVariants.{W4 as w4}
 use Rattle.node.specs.Laws.{node_is}
 use Rattle.totals.specs.Units.{units_some, units_at_lem}
 use Rattle.scan.proofs.Heads.{head_stops, head_enters, head_goes}
-use Rattle.rules.specs.Scan.Landing.{Lands, same_pass_as, lands_behind}
-use Rattle.rules.specs.Places.{sets_length}
+use Rattle.rules.specs.Scan.Landing.{Lands}
+use Rattle.rules.proofs.Laws.Scan.Landing.{same_pass_as, lands_behind}
+use Rattle.rules.proofs.Laws.Places.{sets_length}
 use Rattle.scan.specs.Walk.{Walkable}
 
 -- ---- one pass after another

@@ -15,7 +15,8 @@ use Rattle.rules.specs.Refusals.{wrong_node_at, footprint_at, max_footprint}
 use Rattle.rules.specs.Types.{Ty}
 use Rattle.rules.specs.Totals.{foot}
 use Rattle.rules.specs.Table.{count, node_at, ty_at, allowed, nodes_from, head_check, check_table, numbers_from, numbers_of, footprints_of}
-use Rattle.rules.specs.Table.Laws.{Below, Passes, type_prefix, allowed_below, nodes_next, nodes_wrong, nodes_large, numbers_at, numbers_length, check_nodes, head_fine}
+use Rattle.rules.specs.Table.Laws.{Below, Passes}
+use Rattle.rules.proofs.Laws.Table.{type_prefix, allowed_below, nodes_next, nodes_wrong, nodes_large, numbers_at, numbers_length, check_nodes, head_fine}
 use Rattle.table.specs.Names.{fine, wrong}
 use Rattle.table.specs.Nodes.{foot_over, no_feet}
 use Rattle.table.specs.Laws.{foot_over_lem}

@@ -4,7 +4,8 @@ use Rattle.std.proofs.Common.{ap, sym, ◌∙◌, arith, lit<}
 use Rattle.rules.specs.Types.{Ty}
 use Rattle.rules.specs.Totals.{longest}
 use Rattle.rules.specs.Table.{count, node_at, ty_at, root}
-use Rattle.rules.specs.Table.Laws.{Good, type_node}
+use Rattle.rules.specs.Table.Laws.{Good}
+use Rattle.rules.proofs.Laws.Table.{type_node}
 use Rattle.table.specs.Filling.{Measuring, measuring_every}
 use Rattle.totals.specs.Nodes.{longest_over, coded, decoded, Short, AllShort}
 use Rattle.totals.specs.Laws.{longest_over_lem, coded_short, decoded_coded}

@@ -5,7 +5,7 @@ use Rattle.std.proofs.Common.{arith, ne_eqb}
 use Rattle.rules.specs.Refusals.{max_footprint}
 use Rattle.rules.specs.Types.{Ty}
 use Rattle.rules.specs.Totals.{foot, longest}
-use Rattle.rules.specs.Totals.Bound.{longest_twice}
+use Rattle.rules.proofs.Laws.Totals.Bound.{longest_twice}
 use Rattle.rules.specs.Table.{build}
 use Rattle.rules.specs.Table.Laws.{Below}
 use Rattle.node.specs.Names.{Node, leafNode, optionNode, resultNode, pairNode, arrayNode, vectorNode, bitsNode, unknown}

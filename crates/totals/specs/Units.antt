@@ -11,7 +11,8 @@ use Rattle.rules.specs.Basics.{pick}
 use Rattle.rules.specs.Types.{Ty}
 use Rattle.rules.specs.Totals.{foot, unit_cells}
 use Rattle.rules.specs.Table.{count, b_at, node_at, build, ty_at, footprints_of, unit_code, units_of}
-use Rattle.rules.specs.Table.Laws.{Below, Good, type_node, good_check, numbers_at}
+use Rattle.rules.specs.Table.Laws.{Below, Good}
+use Rattle.rules.proofs.Laws.Table.{type_node, good_check, numbers_at}
 use Rattle.node.specs.Names.{Node, leafNode, optionNode, resultNode, pairNode, arrayNode, vectorNode, bitsNode, unknown}
 use Rattle.table.specs.Nodes.{Counted}
 use Rattle.table.specs.Laws.{counted_at}

@@ -2,7 +2,7 @@ use mathlib.Core.Path.{◌∙◌, sym}
 use Prim.Native.Nat.{◌<◌, ◌-◌, ◌^◌}
 use native.Mathlib.Omega.{arith}
 use mir.Facts.{Fits-widen}
-use Rattle.rules.specs.Bits.Places.{gathered_none, gathered_step, gathered_all, gathered_lt}
+use Rattle.rules.proofs.Laws.Bits.Places.{gathered_none, gathered_step, gathered_all, gathered_lt}
 use Rattle.bit_vec.proofs.cell_of.Goals as goal
 
 pub overflow_mul-from : goal.overflow_mul-from

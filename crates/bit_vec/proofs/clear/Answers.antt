@@ -6,7 +6,7 @@ use lib.Dec.{ltb}
 use lib.ListN.{get_or}
 use lib.Pow.{pow-lt}
 use Rattle.rules.specs.Bits.{words64}
-use Rattle.rules.specs.Bits.Places.{clear_whole, clear_last}
+use Rattle.rules.proofs.Laws.Bits.Places.{clear_whole, clear_last}
 use Rattle.bit_vec.specs.Moves.{clear_cells}
 use Rattle.bit_vec.proofs.clear.Goals as goal
 

@@ -4,7 +4,7 @@ use native.Mathlib.Omega.{arith}
 use lib.Seq.{length-take-le}
 use Rattle.rules.specs.Bits.{words8}
 use Rattle.rules.specs.Wire.{lanes_in, lanes_from}
-use Rattle.rules.specs.Wire.Laws.{whole_there, whole_short}
+use Rattle.rules.proofs.Laws.Wire.{whole_there, whole_short}
 use Rattle.bit_vec.specs.Moves.{bits_read, cells_read}
 use Rattle.bit_vec.proofs.read.Goals as goal
 

@@ -2,7 +2,7 @@ use mathlib.Core.Path.{refl, ◌∙◌, sym}
 use Prim.Native.Nat.{◌-◌}
 use native.Mathlib.Omega.{arith}
 use lib.ListN.{length-set}
-use Rattle.rules.specs.Bits.Places.{stored_all, stored_step, stored_none}
+use Rattle.rules.proofs.Laws.Bits.Places.{stored_all, stored_step, stored_none}
 use Rattle.bit_vec.proofs.store_cells.Goals as goal
 
 pub loop-j-init : goal.loop-j-init

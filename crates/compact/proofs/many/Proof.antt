@@ -4,7 +4,7 @@ use native.Mathlib.Omega.{arith}
 use borrow.Author.Rules.{rules}
 use borrow.Author.Tests.{lt-ltb, le-ltb, eq-eqb, ne_eqb}
 use Rattle.rules.specs.Compact.{form3}
-use Rattle.rules.specs.Compact.Answers.{form3_there}
+use Rattle.rules.proofs.Laws.Compact.Answers.{form3_there}
 use Rattle.number.specs.Laws.{one_word, two_words}
 use Rattle.compact.specs.Halves.{in_halves}
 use Rattle.compact.proofs.many.Statement.{statement}

@@ -5,8 +5,8 @@ use Prim.Native.Nat.{ℕ}
 use native.Mathlib.Omega.{arith}
 use borrow.Author.Rules.{rules}
 use Rattle.rules.specs.Compact.{compact_from}
-use Rattle.rules.specs.Compact.Answers.{at_none}
-use Rattle.rules.specs.Places.{part_cons}
+use Rattle.rules.proofs.Laws.Compact.Answers.{at_none}
+use Rattle.rules.proofs.Laws.Places.{part_cons}
 use Rattle.compact.specs.Halves.{in_halves}
 use Rattle.compact.specs.Laws.{size_le}
 use Rattle.compact.proofs.read.Statement.{statement}

@@ -4,7 +4,7 @@ use Prim.Native.Nat.{ℕ, ◌+◌, ◌%◌}
 use native.Mathlib.Omega.{arith}
 use borrow.Author.Rules.{rules}
 use Rattle.rules.specs.Compact.{form3}
-use Rattle.rules.specs.Compact.Answers.{at_0, at_1, at_2, at_3}
+use Rattle.rules.proofs.Laws.Compact.Answers.{at_0, at_1, at_2, at_3}
 use Rattle.compact.specs.Halves.{in_halves}
 use Rattle.compact.proofs.read_from.Statement.{statement}
 use Rattle.compact.proofs.read_from.Tie as tie

@@ -2,7 +2,7 @@
 use mathlib.Core.Path.{ap, sym, ◌∙◌}
 use Prim.Native.Nat.{ℕ, ◌+◌}
 use borrow.Author.Rules.{rules}
-use Rattle.rules.specs.Compact.Encoding.{length_0, length_1, length_2, length_3}
+use Rattle.rules.proofs.Laws.Compact.Encoding.{length_0, length_1, length_2, length_3}
 use Rattle.compact_put.specs.Padded.{OfForm}
 use Rattle.compact_put.proofs.Outputs.{last_form}
 use Rattle.compact_put.proofs.encoded_len.Statement.{statement}

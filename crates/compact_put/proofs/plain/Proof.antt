@@ -5,7 +5,7 @@ use native.Mathlib.Omega.{arith}
 use borrow.Author.Rules.{rules}
 use lib.Seq.{sets}
 use Rattle.rules.specs.Bytes.{le_bytes}
-use Rattle.rules.specs.Bytes.Laws.{length_bytes}
+use Rattle.rules.proofs.Laws.Bytes.{length_bytes}
 use Rattle.compact_put.proofs.Outputs.{padded_is}
 use Rattle.compact_put.proofs.plain.Statement.{statement}
 use Rattle.compact_put.proofs.plain.Tie as tie

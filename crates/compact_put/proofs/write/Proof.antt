@@ -1,7 +1,7 @@
 -- `compact_put::write` meets its contract: a left shift by two with the form's number below it is what the form's bytes say. Assumes nothing.
 use mathlib.Core.Path.{ap, sym, ◌∙◌}
 use borrow.Author.Rules.{rules}
-use Rattle.rules.specs.Compact.Encoding.{encode_3}
+use Rattle.rules.proofs.Laws.Compact.Encoding.{encode_3}
 use Rattle.compact_put.specs.Padded.{padded}
 use Rattle.compact_put.proofs.Outputs.{last_form, plain_0, plain_1, plain_2}
 use Rattle.compact_put.proofs.write.Statement.{statement}

@@ -1,6 +1,6 @@
 use mathlib.Core.Path.{ap, sym, ◌∙◌}
 use borrow.Author.Rules.{rules}
-use Rattle.rules.specs.Demands.{whole_fills}
+use Rattle.rules.proofs.Laws.Demands.{whole_fills}
 use Rattle.rules.specs.Scan.{filling}
 use Rattle.decode.proofs.measure_whole.Statement.{statement}
 use Rattle.decode.proofs.measure_whole.Tie as tie

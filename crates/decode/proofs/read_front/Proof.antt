@@ -1,5 +1,5 @@
 use borrow.Author.Rules.{rules}
-use Rattle.rules.specs.Demands.{front_decided}
+use Rattle.rules.proofs.Laws.Demands.{front_decided}
 use Rattle.rules.specs.Jobs.{read_front}
 use Rattle.decode.proofs.Reading.{cut_fill, cut_read}
 use Rattle.decode.proofs.read_front.Statement.{statement}

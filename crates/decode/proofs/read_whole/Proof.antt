@@ -1,5 +1,5 @@
 use borrow.Author.Rules.{rules}
-use Rattle.rules.specs.Demands.{whole_decided}
+use Rattle.rules.proofs.Laws.Demands.{whole_decided}
 use Rattle.rules.specs.Jobs.{read_whole}
 use Rattle.decode.proofs.Reading.{cut_fill, cut_read}
 use Rattle.decode.proofs.read_whole.Statement.{statement}

@@ -3,7 +3,7 @@ use mathlib.Core.Path.{◌≡◌, sym, ◌∙◌}
 use native.Mathlib.Omega.{arith}
 use borrow.Author.Rules.{rules}
 use Rattle.rules.specs.Table.{check_table}
-use Rattle.rules.specs.Table.Laws.{check_good}
+use Rattle.rules.proofs.Laws.Table.{check_good}
 use Rattle.rules.specs.declared.Check.TheVariants.{Fine as fine}
 use Rattle.encode_append.proofs.Deciding.{root_refused, root_vector, root_other}
 use Rattle.encode_append.proofs.check_root.Statement.{statement}

@@ -4,7 +4,7 @@ use Prim.Native.Nat.{◌≤◌}
 use native.Mathlib.Omega.{arith}
 use lib.ListN.{length, drop, take, length-set}
 use lib.Seq.{sets}
-use Rattle.rules.specs.Places.{sets_same}
+use Rattle.rules.proofs.Laws.Places.{sets_same}
 use Rattle.encode_append.proofs.Moving.{shift_step}
 use Rattle.encode_append.proofs.shift_up.Statement.{statement}
 use Rattle.encode_append.proofs.shift_up.Tie as tie

@@ -1,7 +1,7 @@
 use mathlib.Core.List.{[], ◌∷◌}
 use native.Mathlib.Omega.{arith}
-use Rattle.rules.specs.Scan.Single.{entry_deep, entry_dear, entry_full, entry_passes}
-use Rattle.rules.specs.Scan.Landing.{stops, lands, same_done}
+use Rattle.rules.proofs.Laws.Scan.Single.{entry_deep, entry_dear, entry_full, entry_passes}
+use Rattle.rules.proofs.Laws.Scan.Landing.{stops, lands, same_done}
 use Rattle.meter.proofs.enter.Goals as goal
 
 pub returns-then-m-level : goal.returns-then-m-level

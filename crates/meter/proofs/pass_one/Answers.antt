@@ -1,8 +1,8 @@
 use mathlib.Core.List.{[], ◌∷◌}
 use mathlib.Core.Path.{refl}
 use native.Mathlib.Omega.{arith}
-use Rattle.rules.specs.Scan.Single.{plain_stops, plain_passes}
-use Rattle.rules.specs.Scan.Landing.{stops, lands}
+use Rattle.rules.proofs.Laws.Scan.Single.{plain_stops, plain_passes}
+use Rattle.rules.proofs.Laws.Scan.Landing.{stops, lands}
 use Rattle.meter.proofs.pass_one.Goals as goal
 
 pub returns-then-room-lt1 : goal.returns-then-room-lt1

@@ -2,8 +2,9 @@ use mathlib.Core.List.{[]}
 use mathlib.Core.Path.{◌≡◌, refl, ap, sym, ◌∙◌}
 use Prim.Native.Nat.{◌+◌, ◌-◌, ◌*◌}
 use native.Mathlib.Omega.{arith}
-use Rattle.rules.specs.Scan.Landing.{stops, lands}
-use Rattle.rules.specs.Scan.Units.{zeros, units_at, units_fit, units_stop, units_none}
+use Rattle.rules.proofs.Laws.Scan.Landing.{stops, lands}
+use Rattle.rules.specs.Scan.Units.{zeros, units_at}
+use Rattle.rules.proofs.Laws.Scan.Units.{units_fit, units_stop, units_none}
 use Rattle.meter.proofs.Stores.{room_holds, room_one, room_ends, units_full}
 use Rattle.meter.proofs.pass_units.Goals as goal
 

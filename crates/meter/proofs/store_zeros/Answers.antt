@@ -5,7 +5,7 @@ use lib.ListN.{length-set}
 use lib.Seq.{sets}
 use Rattle.rules.specs.Cells.{cells}
 use Rattle.rules.specs.Scan.Units.{zeros}
-use Rattle.rules.specs.Places.{sets_out}
+use Rattle.rules.proofs.Laws.Places.{sets_out}
 use Rattle.meter.proofs.Stores.{zeros_next}
 use Rattle.meter.proofs.store_zeros.Goals as goal
 

@@ -3,7 +3,7 @@ use native.Mathlib.Omega.{arith}
 use lib.Bits.{and_mask, mask_lt}
 use lib.ListN.{length-set}
 use Rattle.rules.specs.Bytes.{le_bytes}
-use Rattle.rules.specs.Places.{sets_out}
+use Rattle.rules.proofs.Laws.Places.{sets_out}
 use Rattle.number.proofs.Loops.{put_step, put_done}
 use Rattle.number.proofs.put.Goals as goal
 

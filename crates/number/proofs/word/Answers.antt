@@ -4,7 +4,7 @@ use native.Mathlib.Nat.{lt_of_lt_of_le}
 use native.Mathlib.Omega.{arith}
 use lib.Dec.{lit≤}
 use lib.ListN.{drop}
-use Rattle.rules.specs.Bytes.Laws.{under_drop}
+use Rattle.rules.proofs.Laws.Bytes.{under_drop}
 use Rattle.number.specs.Laws.{shifted_in}
 use Rattle.number.proofs.Loops.{value_none, value_step, value_done}
 use Rattle.number.proofs.word.Goals as goal

@@ -3,7 +3,7 @@ use native.Mathlib.Omega.{arith}
 use borrow.Author.Rules.{rules}
 use denote.Enum.Declared.{tag_of}
 use Rattle.rules.specs.contracts.Node.{the_type}
-use Rattle.rules.specs.Table.Laws.{check_good}
+use Rattle.rules.proofs.Laws.Table.{check_good}
 use Rattle.rules.specs.declared.Node.TheVariants.{Vector as vectorNode}
 use Rattle.put.proofs.Parts.{from_start, root_put, items_put, no_items}
 use Rattle.put.proofs.Walking.{put_node, children}

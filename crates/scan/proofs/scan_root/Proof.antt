@@ -2,7 +2,7 @@ use mathlib.Core.Path.{refl}
 use Prim.Native.Nat.{◌^◌, ◌<◌}
 use native.Mathlib.Omega.{arith}
 use borrow.Author.Rules.{rules}
-use Rattle.rules.specs.Table.Laws.{check_good}
+use Rattle.rules.proofs.Laws.Table.{check_good}
 use Rattle.scan.proofs.Rooted.{root_walked}
 use Rattle.scan.proofs.scan_root.Statement.{statement}
 use Rattle.scan.proofs.scan_root.Tie as tie

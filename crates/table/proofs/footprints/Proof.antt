@@ -1,7 +1,7 @@
 -- `footprints` meets its contract: the head's answer, or that of the nodes. Assumes nothing.
 use mathlib.Core.Path.{sym, ap, ◌∙◌}
 use borrow.Author.Rules.{rules}
-use Rattle.rules.specs.Table.Laws.{check_head}
+use Rattle.rules.proofs.Laws.Table.{check_head}
 use Rattle.table.specs.Nodes.{no_feet}
 use Rattle.table.specs.Filling.{refused_feet}
 use Rattle.table.proofs.footprints.Statement.{statement}

@@ -8,7 +8,7 @@ use borrow.Author.Tests.{not-true, not-false}
 use lib.ListN.{get_or}
 use Rattle.rules.specs.Totals.{foot}
 use Rattle.rules.specs.Table.{count, node_at, ty_at, allowed}
-use Rattle.rules.specs.Table.Laws.{head_fine}
+use Rattle.rules.proofs.Laws.Table.{head_fine}
 use Rattle.node.specs.Laws.{node_in_lem}
 use Rattle.table.specs.Nodes.{foot_over, no_feet}
 use Rattle.table.specs.Laws.{counted_in}

@@ -8,7 +8,8 @@ use lib.ListN.{get_or}
 use Rattle.rules.specs.Basics.{pick}
 use Rattle.rules.specs.Totals.{foot}
 use Rattle.rules.specs.Table.{count, node_at, ty_at, unit_code}
-use Rattle.rules.specs.Table.Laws.{Good, check_good}
+use Rattle.rules.specs.Table.Laws.{Good}
+use Rattle.rules.proofs.Laws.Table.{check_good}
 use Rattle.node.specs.Laws.{node_good}
 use Rattle.table.specs.Laws.{counted_in}
 use Rattle.table.specs.Filling.{Measuring, measuring_none, measuring_more, measuring_all}

@@ -5,7 +5,8 @@ use native.Mathlib.Omega.{arith}
 use borrow.Author.Rules.{rules}
 use lib.ListN.{get_or}
 use Rattle.rules.specs.Table.{count, ty_at, as_longest}
-use Rattle.rules.specs.Table.Laws.{Good, check_good}
+use Rattle.rules.specs.Table.Laws.{Good}
+use Rattle.rules.proofs.Laws.Table.{check_good}
 use Rattle.node.specs.Laws.{node_good}
 use Rattle.table.specs.Laws.{counted_in}
 use Rattle.table.specs.Filling.{Measuring, measuring_none, measuring_more}

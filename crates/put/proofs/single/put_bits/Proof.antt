@@ -1,7 +1,7 @@
 use mathlib.Core.Path.{refl}
 use borrow.Author.Rules.{rules}
 use Rattle.rules.specs.Put.{put}
-use Rattle.rules.specs.Put.Relative.{put_bits_relative}
+use Rattle.rules.proofs.Laws.Put.Relative.{put_bits_relative}
 use Rattle.rules.specs.Types.{bits}
 use Rattle.put.proofs.Placing.{fits_there, put_there}
 use Rattle.put.proofs.single.put_bits.Statement.{statement}

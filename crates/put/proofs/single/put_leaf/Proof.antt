@@ -1,6 +1,7 @@
 use borrow.Author.Rules.{rules}
-use Rattle.rules.specs.Put.{put_leaf, put_leaf_lem}
-use Rattle.rules.specs.Put.Relative.{put_leaf_relative}
+use Rattle.rules.specs.Put.{put_leaf}
+use Rattle.rules.proofs.Laws.Put.{put_leaf_lem}
+use Rattle.rules.proofs.Laws.Put.Relative.{put_leaf_relative}
 use Rattle.rules.specs.Types.{leaf}
 use Rattle.put.proofs.Placing.{fits_there, put_there}
 use Rattle.put.proofs.single.put_leaf.Statement.{statement}

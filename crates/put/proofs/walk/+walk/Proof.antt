@@ -7,7 +7,7 @@ use native.Mathlib.Omega.{arith}
 use borrow.Author.Rules.{rules}
 use borrow.Fn.Kinds.{In}
 use borrow.Fn.PlainCycle.{Measures, is, falls, and}
-use Rattle.rules.specs.Put.{put_leaf_lem}
+use Rattle.rules.proofs.Laws.Put.{put_leaf_lem}
 use Rattle.rules.specs.declared.Leaf.TheVariants.{Bool as bool, Compact as compact}
 use Rattle.rules.specs.declared.Node.TheVariants.{Leaf as leafNode, Option as optionNode, Result as resultNode, Pair as pairNode, Array as arrayNode, Vector as vectorNode, Bits as bitsNode, Unknown as unknown}
 use Rattle.rules.specs.declared.Width.TheVariants.{W4 as w4}

@@ -5,13 +5,13 @@ use native.Mathlib.Omega.{arith}
 use borrow.Author.Rules.{rules}
 use lib.ListN.{length-drop, length-take}
 use Rattle.rules.specs.Scan.Pass.{lanes_at}
-use Rattle.rules.specs.Scan.Single.{bits_refused, bits_many, bits_few}
-use Rattle.rules.specs.Wire.Used.{leaf_used}
+use Rattle.rules.proofs.Laws.Scan.Single.{bits_refused, bits_many, bits_few}
+use Rattle.rules.proofs.Laws.Wire.Used.{leaf_used}
 use Rattle.rules.specs.declared.Leaf.TheVariants.{Compact as compact}
 use Rattle.rules.specs.declared.Width.TheVariants.{W4 as w4}
 use Rattle.leaf.specs.Laws.{count_got, count_bad}
 use Rattle.scan.proofs.Heads.{head_stops, head_enters, head_goes}
-use Rattle.rules.specs.Scan.Landing.{stops}
+use Rattle.rules.proofs.Laws.Scan.Landing.{stops}
 use Rattle.scan.proofs.Lanes.{lanes_land}
 use Rattle.scan.proofs.bits.scan_bits.Statement.{statement}
 use Rattle.scan.proofs.bits.scan_bits.Tie as tie

@@ -1,7 +1,7 @@
 use mathlib.Core.Path.{refl}
 use native.Mathlib.Omega.{arith}
 use borrow.Author.Rules.{rules}
-use Rattle.rules.specs.Scan.Landing.{stops, same_pass_as}
+use Rattle.rules.proofs.Laws.Scan.Landing.{stops, same_pass_as}
 use Rattle.scan.proofs.Leaves.{leaf_one, leaf_two, leaf_none}
 use Rattle.scan.proofs.single.scan_leaf.Statement.{statement}
 use Rattle.scan.proofs.single.scan_leaf.Tie as tie

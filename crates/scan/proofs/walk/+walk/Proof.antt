@@ -9,17 +9,18 @@ use borrow.Fn.Kinds.{In}
 use borrow.Fn.PlainCycle.{Measures, is, falls, and}
 use Rattle.rules.specs.Parser.{got}
 use Rattle.rules.specs.Scan.Held.{Held}
-use Rattle.rules.specs.Scan.Pass.{pass_at, leaf_pass, pass_leaf, pass_pair, pass_array}
-use Rattle.rules.specs.Scan.Single.{vector_refused}
-use Rattle.rules.specs.Scan.Walk.{result_then}
+use Rattle.rules.specs.Scan.Pass.{pass_at, leaf_pass}
+use Rattle.rules.proofs.Laws.Scan.Pass.{pass_leaf, pass_pair, pass_array}
+use Rattle.rules.proofs.Laws.Scan.Single.{vector_refused}
+use Rattle.rules.proofs.Laws.Scan.Walk.{result_then}
 use Rattle.rules.specs.Table.{ty_at}
 use Rattle.rules.specs.Wire.{leaf_from}
-use Rattle.rules.specs.Wire.Used.{leaf_used}
+use Rattle.rules.proofs.Laws.Wire.Used.{leaf_used}
 use Rattle.rules.specs.declared.Leaf.TheVariants.{Bool as bool, Compact as compact}
 use Rattle.rules.specs.declared.Node.TheVariants.{Leaf as leafNode, Option as optionNode, Result as resultNode, Pair as pairNode, Array as arrayNode, Vector as vectorNode, Bits as bitsNode, Unknown as unknown}
 use Rattle.rules.specs.declared.Width.TheVariants.{W4 as w4}
 use Rattle.leaf.specs.Laws.{count_got, count_bad}
-use Rattle.rules.specs.Scan.Landing.{stops, same_pass_as}
+use Rattle.rules.proofs.Laws.Scan.Landing.{stops, same_pass_as}
 use Rattle.scan.proofs.Walking.{then_stops, walk_node, walk_behind, walk_items, feet_there, units_there, walk_units, walk_unit, children, by_kind, tag_held, tag_in, tag_first, tag_second, tag_alone, item_held, pair_goes, charge_lt, vector_stops, entered, vector_goes, Looping, loop_done, loop_stops, loop_goes}
 use Rattle.scan.proofs.walk.scan_item.Reads as scan-item
 use Rattle.scan.proofs.walk.scan_item.Kinds as scan-item-kinds

@@ -4,9 +4,9 @@ use Rattle.std.proofs.Math.Decide.{dec_lt}
 use Rattle.std.proofs.Common.{arith, lit≤}
 use Rattle.rules.specs.Types.{Width, w1, w2, w4, w8, w16, size}
 use Rattle.rules.specs.Compact.{compact_bytes}
-use Rattle.rules.specs.Compact.Sizes.{significant_lt, significant_mono, significant_4}
-use Rattle.rules.specs.Compact.Encoding.{length_0, length_1, length_2, length_3}
-use Rattle.rules.specs.Compact.Law.{below_exp}
+use Rattle.rules.proofs.Laws.Compact.Sizes.{significant_lt, significant_mono, significant_4}
+use Rattle.rules.proofs.Laws.Compact.Encoding.{length_0, length_1, length_2, length_3}
+use Rattle.rules.proofs.Laws.Compact.Law.{below_exp}
 use Rattle.rules.specs.Totals.{longest_compact}
 
 -- what each form asks of the table

@@ -12,13 +12,13 @@ use Rattle.rules.specs.Basics.{pick, All, Under, flat}
 use Rattle.rules.specs.Types.{w4, compact, Ty, vector, Val, Fits}
 use Rattle.rules.specs.Compact.{compact_from}
 use Rattle.rules.specs.Parser.{got, bad, times}
-use Rattle.rules.specs.Parser.Laws.{writes_times}
+use Rattle.rules.proofs.Laws.Parser.{writes_times}
 use Rattle.rules.specs.Form.{write}
-use Rattle.rules.specs.Form.Laws.{reads}
+use Rattle.rules.proofs.Laws.Form.{reads}
 use Rattle.rules.specs.Wire.{leaf_bytes, encode, placed, leaf_from}
-use Rattle.rules.specs.Wire.Laws.{wire_reads, leaf_exact, wire_returns}
+use Rattle.rules.proofs.Laws.Wire.{wire_reads, leaf_exact, wire_returns}
 use Rattle.rules.specs.Cells.{as_cells, cells, from_cells, unpack}
-use Rattle.rules.specs.Cells.Laws.{cells_read_lem}
+use Rattle.rules.proofs.Laws.Cells.{cells_read_lem}
 use Rattle.rules.specs.Table.{fine, root, check_table, after_check}
 use Rattle.rules.specs.Jobs.{not, fitted, put_out, old_count, joined, append_from, append_items, append_to, append}
 

@@ -6,12 +6,13 @@ use Rattle.rules.specs.Basics.{pick, choose}
 use Rattle.rules.specs.Types.{w4, Leaf, unit, bool, opt_bool, fixed, compact, float, size, Ty, leaf, nothing, result, pair, array, vector, bits}
 use Rattle.rules.specs.Bytes.{le_value}
 use Rattle.rules.specs.Compact.{compact_from}
-use Rattle.rules.specs.Compact.Law.{compact_took}
+use Rattle.rules.proofs.Laws.Compact.Law.{compact_took}
 use Rattle.rules.specs.Parser.{got, bad, Parser, map, times}
-use Rattle.rules.specs.Parser.Laws.{Inside, inside_map, inside_bind, inside_times}
+use Rattle.rules.specs.Parser.Laws.{Inside}
+use Rattle.rules.proofs.Laws.Parser.{inside_map, inside_bind, inside_times}
 use Rattle.rules.specs.Form.{parse}
 use Rattle.rules.specs.Wire.{byte_from, whole, number_from, leaf_from, lanes_from, bits_body, bits_from, read}
-use Rattle.rules.specs.Wire.Laws.{placed_says, whole_got, lanes_got}
+use Rattle.rules.proofs.Laws.Wire.{placed_says, whole_got, lanes_got}
 
 byte_inside : (m : ℕ) → Inside (byte_from m)
 unfolding byte_from

@@ -12,9 +12,12 @@ use Rattle.rules.specs.Wire.{byte_from, leaf_from}
 use Rattle.rules.specs.Cells.{leaf_cells}
 use Rattle.rules.specs.Trace.{Event, plain}
 use Rattle.rules.specs.Scan.{Limits, Totals, Scan, done, stopped, barred, finish, cells_of}
-use Rattle.rules.specs.Scan.Pass.{Pass, Passer, pass_at, pass_none, then_from, and_then, after, items, unless_barred, passing, headed, leaf_pass, same_pass, pass_leaf, pass_result}
-use Rattle.rules.specs.Scan.Held.{Held, pass_held}
-use Rattle.rules.specs.Scan.Units.{units_at, units_many}
+use Rattle.rules.specs.Scan.Pass.{Pass, Passer, pass_at, pass_none, then_from, and_then, after, items, unless_barred, passing, headed, leaf_pass}
+use Rattle.rules.proofs.Laws.Scan.Pass.{same_pass, pass_leaf, pass_result}
+use Rattle.rules.specs.Scan.Held.{Held}
+use Rattle.rules.proofs.Laws.Scan.Held.{pass_held}
+use Rattle.rules.specs.Scan.Units.{units_at}
+use Rattle.rules.proofs.Laws.Scan.Units.{units_many}
 
 then_passing : (lim : Limits) (st : Totals) (x : Event) (e : ℕ) (f : Totals → ℕ → Pass) → and_then (passing lim st x (λ u. pass_none (done u e))) f ≡ passing lim st x (λ u. f u e)
 then_passing lim st x e f = go (barred lim st x)

@@ -2,7 +2,7 @@
 use Rattle.std.specs.Prelude.{◌≡◌, ℕ, suc, ◌+◌, ◌*◌, ◌^◌, ◌≤◌, ◌<◌, length}
 use Rattle.std.proofs.Common.{ap, ◌∙◌, arith, lt-ltb, le-ltb}
 use Rattle.rules.specs.Bytes.{le_bytes}
-use Rattle.rules.specs.Bytes.Laws.{length_bytes}
+use Rattle.rules.proofs.Laws.Bytes.{length_bytes}
 use Rattle.rules.specs.Compact.{significant, long, compact_bytes}
 
 pub encode_0 : (v : ℕ) → v < 64 → compact_bytes v ≡ le_bytes 1 (v * 4)

@@ -1,0 +1,19 @@
+-- The laws, a module for each module of definitions, of the same name; those below a module say more of it.
+pub mod Append
+pub mod Basics
+pub mod Bench
+pub mod Bits
+pub mod Bytes
+pub mod Cells
+pub mod Compact
+pub mod Demands
+pub mod Form
+pub mod Parser
+pub mod Places
+pub mod Put
+pub mod RoundTrip
+pub mod Scan
+pub mod Table
+pub mod Totals
+pub mod Trace
+pub mod Wire

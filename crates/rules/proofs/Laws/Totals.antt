@@ -1,0 +1,2 @@
+-- More laws of the module *Totals*.
+pub mod Bound

@@ -1,0 +1,4 @@
+-- More laws of the module *Trace*.
+pub mod Follows
+pub mod Grow
+pub mod Sums
