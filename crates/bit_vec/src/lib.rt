@@ -121,8 +121,8 @@ fn store_bytes(n: usize, cells: &[u64], out: &mut [u8], at: usize)
 
 // Reads n bits of a bit vector that starts at offset `start` from the front of s into the cells from a place on. If they are refused, the cells stay.
 pub fn read(n: u64, start: usize, s: &[u8], cells: &mut [u64], at: usize) -> Moved
-    ensures value { result ≡ bits_read n start s.now }
-    ensures cells_after { cells.new ≡ cells_read n start s.now cells.old at }
+    ensures answers { result ≡ bits_read n start s.now }
+    ensures writes { cells.new ≡ cells_read n start s.now cells.old at }
 {
     let n = n as usize;
     let used = bytes_for(n);
@@ -138,8 +138,8 @@ pub fn read(n: u64, start: usize, s: &[u8], cells: &mut [u64], at: usize) -> Mov
 
 // Writes n bits from the front of a list of cells into the output from a place on. If their cells are not all there, the output stays.
 pub fn write(n: u64, cells: &[u64], out: &mut [u8], at: usize) -> Lanes
-    ensures value { result ≡ bits_written n cells.now }
-    ensures out_after { out.new ≡ bytes_written n cells.now out.old at }
+    ensures answers { result ≡ bits_written n cells.now }
+    ensures writes { out.new ≡ bytes_written n cells.now out.old at }
 {
     let n = n as usize;
     let used = cells_for(n);

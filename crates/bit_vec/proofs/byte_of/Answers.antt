@@ -19,13 +19,8 @@ overflow_sub-left c = omega arith
 pub overflow_add-i : goal.overflow_add-i
 overflow_add-i c = omega arith
 
--- a bit more fits the byte
-
-fits : (c : tie.In-loop invariant-loop decreases-loop) → c.loop-left.value < 2 ^ 7
-fits c = gathered_lt 8 _ _ 7 _ _ c.loop-left.invariant.1 (omega arith)
-
 pub overflow_mul-value : goal.overflow_mul-value
-overflow_mul-value c = omega (arith, fits c)
+overflow_mul-value c = omega (arith, gathered_lt 8 _ _ 7 _ _ c.loop-left.invariant.1 (omega arith))
 
 pub offset_bounds-cells-i : goal.offset_bounds-cells-i
 offset_bounds-cells-i c = omega arith
@@ -37,7 +32,7 @@ pub bit-requires : goal.bit-requires
 bit-requires c = omega arith
 
 pub overflow_add-value : goal.overflow_add-value
-overflow_add-value c = omega (arith, fits c)
+overflow_add-value c = omega (arith, gathered_lt 8 _ _ 7 _ _ c.loop-left.invariant.1 (omega arith))
 
 pub loop-left-smaller : goal.loop-left-smaller
 loop-left-smaller c = omega arith

@@ -20,13 +20,8 @@ overflow_sub-left c = omega arith
 pub overflow_add-i : goal.overflow_add-i
 overflow_add-i c = omega arith
 
--- a bit more fits the cell
-
-fits : (c : tie.In-loop invariant-loop decreases-loop) → c.loop-left.value < 2 ^ 63
-fits c = gathered_lt 64 _ _ 63 _ _ c.loop-left.invariant.1 (omega arith)
-
 pub overflow_mul-value : goal.overflow_mul-value
-overflow_mul-value c = omega (arith, fits c)
+overflow_mul-value c = omega (arith, gathered_lt 64 _ _ 63 _ _ c.loop-left.invariant.1 (omega arith))
 
 pub bounds-s-i : goal.bounds-s-i
 bounds-s-i c = omega arith
@@ -38,7 +33,7 @@ pub bit-requires : goal.bit-requires
 bit-requires c = omega arith
 
 pub overflow_add-value : goal.overflow_add-value
-overflow_add-value c = omega (arith, fits c)
+overflow_add-value c = omega (arith, gathered_lt 64 _ _ 63 _ _ c.loop-left.invariant.1 (omega arith))
 
 pub loop-left-smaller : goal.loop-left-smaller
 loop-left-smaller c = omega arith

@@ -9,12 +9,17 @@ use Rattle.bit_vec.specs.declared.Lanes.TheVariants.{Bytes}
 use Rattle.bit_vec.specs.Moves.{bits_written, bytes_written}
 use Rattle.bit_vec.proofs.write.Goals as goal
 
-pub returns-then-cells-used : goal.returns-then-cells-used
+pub returns-then-cells-used-clause-answers : goal.returns-then-cells-used-clause-answers
 unfolding bits_written bytes_written
-returns-then-cells-used c =
-    let both = let a = c.args in
-    rw (lt-ltb (length a.cells.now) (words64 a.n) (omega arith)) (refl, refl) in
-    record { value = both.0; out_after = both.1 }
+returns-then-cells-used-clause-answers c =
+    let a = c.args in
+    rw (lt-ltb (length a.cells.now) (words64 a.n) (omega arith)) refl
+
+pub returns-then-cells-used-clause-writes : goal.returns-then-cells-used-clause-writes
+unfolding bits_written bytes_written
+returns-then-cells-used-clause-writes c =
+    let a = c.args in
+    rw (lt-ltb (length a.cells.now) (words64 a.n) (omega arith)) refl
 
 pub slice_bounds-store_bytes-end : goal.slice_bounds-store_bytes-end
 slice_bounds-store_bytes-end c = sym (length-take-le _ _ c.if-cells-used.false)
@@ -22,10 +27,16 @@ slice_bounds-store_bytes-end c = sym (length-take-le _ _ c.if-cells-used.false)
 pub store_bytes-requires : goal.store_bytes-requires
 store_bytes-requires c = rw (length-take-le _ _ c.if-cells-used.false) (omega arith)
 
-pub returns : goal.returns
+pub returns-clause-answers : goal.returns-clause-answers
 unfolding bits_written bytes_written
-returns c =
-    let both = let b = c in
+returns-clause-answers c =
+    let b = c in
     let a = b.args in
-    rw (le-ltb (length a.cells.now) (words64 a.n) (omega arith), ← b.cells_for-used.ensures) (ap Bytes c.bytes_for.ensures, c.store_Bytes.ensures) in
-    record { value = both.0; out_after = both.1 }
+    rw (le-ltb (length a.cells.now) (words64 a.n) (omega arith), ← b.cells_for-used.ensures) (ap Bytes c.bytes_for.ensures)
+
+pub returns-clause-writes : goal.returns-clause-writes
+unfolding bits_written bytes_written
+returns-clause-writes c =
+    let b = c in
+    let a = b.args in
+    rw (le-ltb (length a.cells.now) (words64 a.n) (omega arith), ← b.cells_for-used.ensures) c.store_bytes.ensures

@@ -7,6 +7,3 @@ returns-in-4 c = rw c.in-4.is
 
 pub returns-in-8 : goal.returns-in-8
 returns-in-8 c = rw c.in-8.is
-
-pub returns-in_default : goal.returns-in_default
-returns-in_default c = rw (ne_eqb _ 4 c.in-4.rest.0.1, ne_eqb _ 8 c.in-4.rest.1)

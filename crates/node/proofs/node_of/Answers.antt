@@ -1,6 +1,7 @@
 -- `node_of` meets its contract: each arm fixes the kind, at which `node_of` computes. Assumes nothing.
 use mathlib.Core.Path.{◌∙◌, ap}
 use borrow.Author.Tests.{ne_eqb}
+use Rattle.std.proofs.Common.{rules}
 use Rattle.rules.specs.Table.{node_of, unused as ifUnused}
 use Rattle.node.proofs.node_of.Goals as goal
 
@@ -54,20 +55,4 @@ returns-in-11 c = rw c.in-11.is (c.unused-in-11-2.ensures ∙ ap (ifUnused c.arg
 
 pub returns-in_default : goal.returns-in_default
 unfolding node_of
-returns-in_default c =
-    let no = c.in-0.rest in
-    let low = no.0.0.0.0.0.0 in
-    simp (
-      ne_eqb _ 0 low.0.0.0.0.0.1,
-      ne_eqb _ 1 low.0.0.0.0.1,
-      ne_eqb _ 2 low.0.0.0.1,
-      ne_eqb _ 3 low.0.0.1,
-      ne_eqb _ 4 low.0.1,
-      ne_eqb _ 5 low.1,
-      ne_eqb _ 6 no.0.0.0.0.0.1,
-      ne_eqb _ 7 no.0.0.0.0.1,
-      ne_eqb _ 8 no.0.0.0.1,
-      ne_eqb _ 9 no.0.0.1,
-      ne_eqb _ 10 no.0.1,
-      ne_eqb _ 11 no.1,
-    )
+returns-in_default c = search rules

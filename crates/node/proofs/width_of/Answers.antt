@@ -1,5 +1,6 @@
 -- `width_of` meets its contract: each arm fixes the number. Assumes nothing.
 use borrow.Author.Tests.{ne_eqb}
+use Rattle.std.proofs.Common.{rules}
 use Rattle.node.specs.Nodes.{width_named}
 use Rattle.node.proofs.width_of.Goals as goal
 
@@ -25,6 +26,4 @@ returns-in-16 c = rw c.in-16.is
 
 pub returns-in_default : goal.returns-in_default
 unfolding width_named
-returns-in_default c =
-    let no = c.in-1.rest in
-    rw (ne_eqb _ 1 no.0.0.0.0.1, ne_eqb _ 2 no.0.0.0.1, ne_eqb _ 4 no.0.0.1, ne_eqb _ 8 no.0.1, ne_eqb _ 16 no.1)
+returns-in_default c = search rules
