@@ -32,7 +32,7 @@ unfolding bits_written bytes_written
 returns-clause-answers c =
     let b = c in
     let a = b.args in
-    rw (le-ltb (length a.cells.now) (words64 a.n) (omega arith), ← b.cells_for-used.ensures) (ap Bytes c.bytes_for.ensures)
+    rw (le-ltb (length a.cells.now) (words64 a.n) (omega arith)) (ap Bytes c.bytes_for.ensures)
 
 pub returns-clause-writes : goal.returns-clause-writes
 unfolding bits_written bytes_written
