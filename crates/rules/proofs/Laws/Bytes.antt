@@ -1,7 +1,6 @@
 -- Laws of `le_value` and `le_bytes`: bytes, lowest first, and the number that they say.
 use Rattle.std.specs.Prelude.{List, [], ◌∷◌, ◌≡◌, refl, ℕ, zero, suc, ◌+◌, ◌*◌, ◌/◌, ◌%◌, ◌^◌, ◌<◌, length, drop, take}
 use Rattle.std.proofs.Common.{ap, ◌∙◌, ap₂, mul-suc, mul_comm, arith, pow_pos, pow-add, get_or-drop}
-use Rattle.std.proofs.Math.Pow.{low, high}
 use Rattle.rules.specs.Basics.{Under}
 use Rattle.rules.specs.Bytes.{le_value, le_bytes}
 

@@ -1,5 +1,5 @@
 -- When a reader undoes a writer, and the other way round: a law for each way of putting readers together.
-use Rattle.std.specs.Prelude.{List, ◌++◌, ℕ, ◌+◌, ◌≤◌, take}
+use Rattle.std.specs.Prelude.{List, ◌++◌, ℕ, ◌≤◌, take}
 use Rattle.std.proofs.Math.Path.{◌≡◌}
 use Rattle.std.proofs.Math.ListN.{length}
 use Rattle.rules.specs.Basics.{Under}

@@ -1,6 +1,6 @@
 -- DEMAND 3: a scan is done exactly if the written rule reads a value that nests at most D deep, fills at most C cells, and has no vector or charges less than M.
 -- `run_ran` says it of traces, by induction along the trace; `along` takes it to types.
-use Rattle.std.specs.Prelude.{List, ◌++◌, [], ◌∷◌, ◌⊎◌, ℕ, ◌+◌, ◌^◌, max, ◌≤◌, ◌<◌}
+use Rattle.std.specs.Prelude.{List, ◌++◌, [], ◌∷◌, ℕ, ◌+◌, ◌^◌, max, ◌≤◌, ◌<◌}
 use Rattle.std.proofs.Math.Logic.{inl, inr, ⊎_elim}
 use Rattle.std.proofs.Math.Option.{none, some, Option}
 use Rattle.std.proofs.Math.Path.{◌≡◌, refl, ap, ap₂}
@@ -12,7 +12,7 @@ use Rattle.rules.specs.Types.{Ty, leaf, nothing, result, pair, array, vector, bi
 use Rattle.rules.specs.Parser.{Res, got, bad}
 use Rattle.rules.specs.Wire.{read}
 use Rattle.rules.specs.Cells.{cells}
-use Rattle.rules.specs.Totals.{nesting, charge, vectors}
+use Rattle.rules.specs.Totals.{nesting, vectors}
 use Rattle.rules.specs.Trace.{Head, Event, plain, enter, Trace, ended, refused, item, trace}
 use Rattle.rules.specs.Trace.Sums.{Sums, ◌⊕◌, nil, sums, ending, Traces}
 use Rattle.rules.proofs.Laws.Trace.Sums.{nil_left}

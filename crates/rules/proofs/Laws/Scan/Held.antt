@@ -1,5 +1,5 @@
 -- What a pass that is done says of its numbers: its bytes are there, and its cells are counted and within C.
-use Rattle.std.specs.Prelude.{List, ◌++◌, ◌≡◌, refl, ℕ, ◌+◌, ◌-◌, ◌≤◌, length}
+use Rattle.std.specs.Prelude.{List, ◌++◌, ◌≡◌, refl, ℕ, ◌+◌, ◌≤◌, length}
 use Rattle.std.proofs.Common.{ap, sym, ◌∙◌, subst, add-zero, arith, length-append}
 use Rattle.rules.specs.Types.{Ty}
 use Rattle.rules.specs.Parser.{got}

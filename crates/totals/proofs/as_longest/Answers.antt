@@ -1,0 +1,10 @@
+-- `as_longest` meets its contract: the test is the one that `decoded` makes. Assumes nothing.
+use borrow.Author.Tests.{eq-eqb, ne_eqb}
+use Rattle.totals.specs.Nodes.{no_length}
+use Rattle.totals.proofs.as_longest.Goals as goal
+
+pub returns-then-x-eq-NO_LENGTH : goal.returns-then-x-eq-NO_LENGTH
+returns-then-x-eq-NO_LENGTH c = rw (eq-eqb _ no_length c.if-x-eq-NO_LENGTH.true)
+
+pub returns : goal.returns
+returns c = rw (ne_eqb _ no_length c.if-x-eq-NO_LENGTH.false)
