@@ -25,7 +25,7 @@ overflow_add-at c = omega (arith, leaf_used (compact w4) _ _ _ _ (count_got _ _ 
 pub slice_bounds-scan_lanes-count : goal.slice_bounds-scan_lanes-count
 slice_bounds-scan_lanes-count c = leaf_used (compact w4) _ _ _ _ (count_got _ _ _ _ c.count_from.ensures c.in-Of.is)
 
-pub slice_bounds-scan_lanes-start : goal.UNKNOWN-slice-bounds-scan-lanes-start
+pub slice_bounds-scan_lanes-start : goal.slice_bounds-scan_lanes-start
 slice_bounds-scan_lanes-start c = leaf_used (compact w4) _ _ _ _ (count_got _ _ _ _ c.count_from.ensures c.in-Of.is)
 
 pub scan_lanes-requires : goal.scan_lanes-requires

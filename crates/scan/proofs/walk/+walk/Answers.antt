@@ -236,7 +236,9 @@ scan_vector-overflow_mul-n t c =
     record { fits = charge_lt c.requires B }
 
 pub scan_vector-overflow_add-level : goal.scan_vector-overflow_add-level
-scan_vector-overflow_add-level t c = omega (arith, (entered c.requires (vector-count t count) _ _ (c.enter.ensures.answers, c.enter.ensures.writes) c.in-Done.is).lets.0)
+scan_vector-overflow_add-level t c =
+    let B = count_got _ _ _ _ c.count_from.ensures c.in-Of.is in
+    omega (arith, (entered c.requires B _ _ (c.enter.ensures.answers, c.enter.ensures.writes) c.in-Done.is).lets.0)
 
 pub scan_vector-slice_bounds-scan_items-count : goal.scan_vector-slice_bounds-scan_items-count
 scan_vector-slice_bounds-scan_items-count t c =
@@ -250,7 +252,8 @@ scan_vector-slice_bounds-scan_items-start t c =
 
 pub scan_vector-scan_items-requires : goal.scan_vector-scan_items-requires
 scan_vector-scan_items-requires t c =
-    let counted = vector-count t count in
+    let B = count_got _ _ _ _ c.count_from.ensures c.in-Of.is in
+    let counted = B in
     (omega arith, walk_items c.requires (leaf_used (compact w4) _ _ _ _ counted) (entered c.requires counted _ _ (c.enter.ensures.answers, c.enter.ensures.writes) c.in-Done.is))
 
 pub scan_vector-returns-in-Refused : goal.scan_vector-returns-in-Refused
@@ -260,12 +263,14 @@ scan_vector-returns-in-Refused t c =
 
 pub scan_vector-returns-in-Refused-enter : goal.scan_vector-returns-in-Refused-enter
 scan_vector-returns-in-Refused-enter t c =
-    let both = vector_stops c.requires (vector-count t count) _ _ (c.enter.ensures.answers, c.enter.ensures.writes) c.in-Refused-enter.is in
+    let B = count_got _ _ _ _ c.count_from.ensures c.in-Of.is in
+    let both = vector_stops c.requires B _ _ (c.enter.ensures.answers, c.enter.ensures.writes) c.in-Refused-enter.is in
     record { answers = both.0; writes = both.1 }
 
 pub scan_vector-returns-in-Done : goal.scan_vector-returns-in-Done
 scan_vector-returns-in-Done t c =
-    let both = vector_goes c.requires (vector-count t count) _ _ (c.enter.ensures.answers, c.enter.ensures.writes) c.in-Done.is (c.scan_items.ensures.answers, c.scan_items.ensures.writes) in
+    let B = count_got _ _ _ _ c.count_from.ensures c.in-Of.is in
+    let both = vector_goes c.requires B _ _ (c.enter.ensures.answers, c.enter.ensures.writes) c.in-Done.is (c.scan_items.ensures.answers, c.scan_items.ensures.writes) in
     record { answers = both.0; writes = both.1 }
 
 -- ---- items
