@@ -1,0 +1,33 @@
+-- `append` meets its contract: a plan that is carried out. Assumes nothing.
+use Rattle.std.proofs.Common.{subst, arith}
+use Rattle.encode_append.proofs.Joining.{refused_leaves, planned_joins, join_answers, join_leaves}
+use Rattle.encode_append.specs.Joins.{Plans}
+use Rattle.encode_append.proofs.append.Goals as goal
+
+pub overflow_sub-moved_end : goal.overflow_sub-moved_end
+overflow_sub-moved_end c = (planned_joins _ c.args.buf.now _ _ _ _ _ _ _ _ c.in-Join.is c.planned.ensures).heads.head
+
+pub overflow_add-moved_end : goal.overflow_add-moved_end
+overflow_add-moved_end c = omega (arith, (planned_joins _ c.args.buf.now _ _ _ _ _ _ _ _ c.in-Join.is c.planned.ensures).heads.room, c.well_formed)
+
+pub replace_head-requires : goal.replace_head-requires
+replace_head-requires c = (planned_joins _ c.args.buf.now _ _ _ _ _ _ _ _ c.in-Join.is c.planned.ensures).heads
+
+pub slice_bounds-write_items-count : goal.slice_bounds-write_items-count
+slice_bounds-write_items-count c = omega (arith, (planned_joins _ c.args.buf.now _ _ _ _ _ _ _ _ c.in-Join.is c.planned.ensures).heads.room)
+
+pub overflow_add-result : goal.overflow_add-result
+overflow_add-result c = omega (arith, (planned_joins _ c.args.buf.now _ _ _ _ _ _ _ _ c.in-Join.is c.planned.ensures).fits, c.well_formed)
+
+pub returns-in-Refused : goal.returns-in-Refused
+returns-in-Refused c =
+    let both = refused_leaves _ _ _ (subst (Plans _ c.args.buf.now _ _ _) c.in-Refused.is c.planned.ensures) in
+    record { answers = both.0; writes = both.1 }
+
+pub returns-in-Join : goal.returns-in-Join
+returns-in-Join c =
+    let J = planned_joins _ c.args.buf.now _ _ _ _ _ _ _ _ c.in-Join.is c.planned.ensures in
+    record {
+        answers = join_answers _ _ _ _ _ _ _ _ _ J;
+        writes = join_leaves _ _ _ _ _ _ _ _ _ J _ _ c.replace_head.ensures c.replace_head.auto.buf c.write_items.ensures.writes
+    }

@@ -1,0 +1,16 @@
+-- `put_done` meets its contract: each part ends where the next begins. Assumes nothing.
+use mathlib.Core.List.{◌++◌}
+use Rattle.report.specs.Text.{spaced, ok, ok_line}
+use Rattle.report.proofs.Writing.{then, then_two}
+use Rattle.report.proofs.put_done.Goals as goal
+
+pub returns : goal.returns
+unfolding ok_line
+returns c =
+    let second = c in
+    let first = second in
+    let word = first in
+    let n = word.args.used in
+    let u = word.args.totals in
+    let two = then_two ok n u.cells 32 word.put-word.ensures first.put_two-next.ensures.puts in
+    then (then_two ((ok ++ spaced n) ++ spaced u.cells) u.charge u.depth 10 two second.put_two-end.ensures.puts) c.put_cells.ensures
