@@ -1,6 +1,6 @@
 -- The law of the public answer: a number is read exactly if the bytes open with its encoding. Then what a caller knows of a value that was read.
-use Rattle.std.specs.Prelude.{List, ◌↔◌, ◌≡◌, refl, ℕ, ◌+◌, ◌*◌, ◌/◌, ◌%◌, ◌^◌, ◌≤◌, ◌<◌, length}
-use Rattle.std.proofs.Common.{ap, ap₂, sym, ◌∙◌, add_comm, lt_of_lt_of_le, arith, lit≤, pow_mono, shr_lt}
+use Rattle.std.specs.Prelude.{List, ◌↔◌, ◌≡◌, refl, ℕ, ◌*◌, ◌/◌, ◌%◌, ◌^◌, ◌≤◌, ◌<◌, length}
+use Rattle.std.proofs.Common.{ap, ap₂, ◌∙◌, add_comm, arith, lit≤, pow_mono}
 use Rattle.std.proofs.Math.Arith.{digits_lt}
 use Rattle.rules.specs.declared.Width.{Width}
 use Rattle.rules.specs.declared.Width.TheVariants.{W1, W2, W4, W8, W16}

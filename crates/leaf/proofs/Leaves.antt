@@ -14,7 +14,7 @@ use Rattle.compact.specs.declared.Reading.TheVariants.{Value}
 use Rattle.number.specs.Laws.{one_word, two_words}
 use Rattle.rules.specs.Basics.{pick}
 use Rattle.rules.specs.Bytes.{le_value}
-use Rattle.rules.specs.Cells.{two, wide, halves}
+use Rattle.rules.specs.Cells.{two, wide}
 use Rattle.rules.specs.Compact.{Answer, value, compact_from}
 use Rattle.rules.specs.Parser.{Res, got, bad}
 use Rattle.rules.specs.Refusals.{short_at, tag_at}

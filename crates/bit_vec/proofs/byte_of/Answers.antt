@@ -1,5 +1,4 @@
 use mathlib.Core.Path.{◌∙◌, sym}
-use Prim.Native.Nat.{◌<◌, ◌-◌, ◌^◌}
 use native.Mathlib.Omega.{arith}
 use Rattle.rules.proofs.Laws.Bits.Places.{gathered_none, gathered_step, gathered_all, gathered_lt}
 use Rattle.bit_vec.proofs.byte_of.Goals as goal

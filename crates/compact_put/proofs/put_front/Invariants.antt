@@ -3,7 +3,6 @@ use mathlib.Core.Path.{◌≡◌}
 use Prim.Native.Nat.{◌+◌, ◌-◌, ◌≤◌}
 use lib.ListN.{length, take}
 use lib.Seq.{sets}
-use Rattle.rules.specs.Wire.{bytes}
 use Rattle.compact_put.proofs.put_front.Given as goal
 
 abbrev pub invariant-loop-i : goal.invariant-loop-i

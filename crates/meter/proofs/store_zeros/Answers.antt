@@ -3,7 +3,6 @@ use mathlib.Core.Path.{◌≡◌, refl, ap, sym, ◌∙◌}
 use native.Mathlib.Omega.{arith}
 use lib.ListN.{length-set}
 use lib.Seq.{sets}
-use Rattle.rules.specs.Cells.{cells}
 use Rattle.rules.specs.Scan.Units.{zeros}
 use Rattle.rules.proofs.Laws.Places.{sets_out}
 use Rattle.meter.proofs.Stores.{zeros_next}

@@ -1,7 +1,6 @@
 use mathlib.Core.Path.{◌≡◌}
 use lib.ListN.{length}
 use lib.Seq.{sets}
-use Rattle.rules.specs.Cells.{cells}
 use Rattle.rules.specs.Scan.Units.{zeros}
 use Rattle.meter.proofs.store_zeros.Given as goal
 

@@ -1,5 +1,4 @@
 -- `float_of` meets its contract: each arm fixes the number. Assumes nothing.
-use borrow.Author.Tests.{ne_eqb}
 use Rattle.node.proofs.float_of.Goals as goal
 
 pub returns-in-4 : goal.returns-in-4

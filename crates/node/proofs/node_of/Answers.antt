@@ -1,6 +1,5 @@
 -- `node_of` meets its contract: each arm fixes the kind, at which `node_of` computes. Assumes nothing.
 use mathlib.Core.Path.{◌∙◌, ap}
-use borrow.Author.Tests.{ne_eqb}
 use Rattle.std.proofs.Common.{rules}
 use Rattle.rules.specs.Table.{node_of, unused as ifUnused}
 use Rattle.node.proofs.node_of.Goals as goal

@@ -1,5 +1,4 @@
 -- `width_of` meets its contract: each arm fixes the number. Assumes nothing.
-use borrow.Author.Tests.{ne_eqb}
 use Rattle.std.proofs.Common.{rules}
 use Rattle.node.specs.Nodes.{width_named}
 use Rattle.node.proofs.width_of.Goals as goal
