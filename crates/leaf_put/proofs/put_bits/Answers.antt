@@ -1,5 +1,4 @@
 use mathlib.Core.Path.{sym, ◌∙◌}
-use borrow.Author.Tests.{not-true, not-false}
 use Rattle.rules.proofs.Laws.Places.{part_cons}
 use Rattle.leaf_put.proofs.Lanes.{bits_refused, bits_none, bits_many, bits_short, bits_set, bits_done}
 use Rattle.leaf_put.proofs.put_bits.Goals as goal
