@@ -8,7 +8,7 @@ samples.py try DIR        runs `wave` on every plan in DIR and compares what it 
                           expected.txt; the last line is 'N plans, M differ'
 
 The bytes are made by this file's own few lines, and expected.txt by the model (tools/wave.py). `wave` is
-run by tools/program, so `rt check wave` has to have built it.
+run by tools/program, so `./run`, or `rt run` in crates/wave, has to have built it.
 """
 import os
 import struct

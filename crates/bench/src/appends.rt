@@ -72,33 +72,33 @@ fn after() -> [u8; 66]
     buffer
 }
 
-fn grows(tally: Tally) -> Tally {
+fn grows(rt: &impl Print, tally: Tally) -> Tally {
     let mut buffer = before();
     let expected = after();
     let same = accepts(&mut buffer, 64, 1, &[200], 66, &expected);
-    say_plan(same, b"63 bytes and one more");
-    tally.with(same)
+    say_plan(rt, same, b"63 bytes and one more");
+    tally.with(rt, same)
 }
 
 // A count that is as large as it can be: one more is refused, and none is not.
-fn full_and_one(tally: Tally) -> Tally {
+fn full_and_one(rt: &impl Print, tally: Tally) -> Tally {
     let head = b"\x03\xff\xff\xff\xff\xee\xee\xee";
     let mut buffer = [0x03, 0xff, 0xff, 0xff, 0xff, 0xee, 0xee, 0xee];
     let same = refuses(&mut buffer, 5, 1, &[200], head);
-    say_plan(same, b"full count and one more");
-    say_refusal(rules::APPEND_COUNT);
-    tally.with(same)
+    say_plan(rt, same, b"full count and one more");
+    say_refusal(rt, rules::APPEND_COUNT);
+    tally.with(rt, same)
 }
 
-fn full_and_none(tally: Tally) -> Tally {
+fn full_and_none(rt: &impl Print, tally: Tally) -> Tally {
     let head = b"\x03\xff\xff\xff\xff\xee\xee\xee";
     let mut buffer = [0x03, 0xff, 0xff, 0xff, 0xff, 0xee, 0xee, 0xee];
     let none = [0u64; 1];
     let same = accepts(&mut buffer, 5, 0, &none[..0], 5, head);
-    say_plan(same, b"full count and none more");
-    tally.with(same)
+    say_plan(rt, same, b"full count and none more");
+    tally.with(rt, same)
 }
 
-pub(crate) fn plans(tally: Tally) -> Tally {
-    full_and_none(full_and_one(grows(tally)))
+pub(crate) fn plans(rt: &impl Print, tally: Tally) -> Tally {
+    full_and_none(rt, full_and_one(rt, grows(rt, tally)))
 }

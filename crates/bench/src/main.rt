@@ -10,13 +10,13 @@ mod tables;
 
 use report::Tally;
 
-fn main() {
-    let tally = compacts::plans(Tally::new());
-    let tally = compacts::refusals(tally);
-    let tally = compacts::examples(tally);
-    let tally = tables::bit_heads(tally);
-    let tally = tables::memory_limits(tally);
-    let tally = tables::numbers(tally);
-    let tally = tables::compounds(tally);
-    appends::plans(tally).print();
+fn main(rt: HostRuntime) {
+    let tally = compacts::plans(&rt, Tally::new());
+    let tally = compacts::refusals(&rt, tally);
+    let tally = compacts::examples(&rt, tally);
+    let tally = tables::bit_heads(&rt, tally);
+    let tally = tables::memory_limits(&rt, tally);
+    let tally = tables::numbers(&rt, tally);
+    let tally = tables::compounds(&rt, tally);
+    appends::plans(&rt, tally).print(&rt);
 }

@@ -1,5 +1,4 @@
 // Counting the plans, and printing them.
-use libc::STDOUT_FILENO;
 use rules::Width;
 
 #[derive(Clone, Copy)]
@@ -8,47 +7,47 @@ pub(crate) struct Tally {
     pub differ: u64,
 }
 
-pub(crate) fn say(text: &[u8]) {
-    io::write_all(STDOUT_FILENO, text);
+// What can't be written is left out, and the run goes on.
+pub(crate) fn say(rt: &impl Print, text: &[u8]) {
+    let _ = rt.write_all(text);
 }
 
-fn say_number(n: u64) {
-    io::print_decimal(STDOUT_FILENO, n);
+fn say_number(rt: &impl Print, n: u64) {
+    let _ = rt.print(n);
 }
 
 // How a plan came out, and its name.
-pub(crate) fn say_plan(same: bool, name: &[u8]) {
+pub(crate) fn say_plan(rt: &impl Print, same: bool, name: &[u8]) {
     if same {
-        say(b"ok ");
+        say(rt, b"ok ");
     } else {
-        say(b"differs ");
+        say(rt, b"differs ");
     }
-    say(name);
+    say(rt, name);
 }
 
-pub(crate) fn say_width(width: Width) {
-    say(b" at u");
-    say_number(8 * (compact::size(width) as u64));
+pub(crate) fn say_width(rt: &impl Print, width: Width) {
+    say(rt, b" at u");
+    say_number(rt, 8 * (compact::size(width) as u64));
 }
 
-fn say_byte(byte: u8) {
-    say(b" ");
-    io::print_hex(STDOUT_FILENO, byte as u64, 2);
+fn say_byte(rt: &impl Print, byte: u8) {
+    let _ = print!(rt; " {byte:02x}");
 }
 
 // The bytes of a message, in hexadecimal.
-pub(crate) fn say_bytes(bytes: &[u8]) {
-    say(b":");
+pub(crate) fn say_bytes(rt: &impl Print, bytes: &[u8]) {
+    say(rt, b":");
     let mut i = 0;
     while i < bytes.len() {
-        say_byte(bytes[i]);
+        say_byte(rt, bytes[i]);
         i += 1;
     }
 }
 
-pub(crate) fn say_refusal(number: u32) {
-    say(b" refused ");
-    say_number(number as u64);
+pub(crate) fn say_refusal(rt: &impl Print, number: u32) {
+    say(rt, b" refused ");
+    say_number(rt, number as u64);
 }
 
 // One more, up to a number that no count reaches.
@@ -65,18 +64,18 @@ impl Tally {
     }
 
     // The end of a plan's line, and the plan counted.
-    pub(crate) fn with(self, same: bool) -> Self {
-        say(b"\n");
+    pub(crate) fn with(self, rt: &impl Print, same: bool) -> Self {
+        say(rt, b"\n");
         Tally {
             plans: more(self.plans),
             differ: if same { self.differ } else { more(self.differ) },
         }
     }
 
-    pub(crate) fn print(self) {
-        say_number(self.plans);
-        say(b" plans, ");
-        say_number(self.differ);
-        say(b" differ\n");
+    pub(crate) fn print(self, rt: &impl Print) {
+        say_number(rt, self.plans);
+        say(rt, b" plans, ");
+        say_number(rt, self.differ);
+        say(rt, b" differ\n");
     }
 }

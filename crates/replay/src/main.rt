@@ -9,6 +9,8 @@ ghost use Rattle.std.specs.Prelude.{◌≤◌};
 
 use cases::{LONGEST_BODY, Outcome};
 use report::Tally;
+use std::io::{ErrorKind, Read};
+use std::{fs, io};
 
 // What comes next in the file: its end, a case with its outcome, or why there is none.
 #[derive(Clone, Copy)]
@@ -23,33 +25,32 @@ pub(crate) enum Next {
 }
 
 // Does the file begin with the mark?
-fn has_mark(file: i32) -> bool {
+fn has_mark(file: &mut impl Read) -> bool {
     let mut mark = [0u8; 4];
-    if io::read_full(file, &mut mark) < 4 {
+    if file.read_exact(&mut mark).is_err() {
         return false;
     }
     check::same(&mark, b"HRV1")
 }
 
-// Where no byte came: the end, or a failure, which reading once more repeats.
-fn after_last(file: i32) -> Next {
-    let mut more = [0u8; 1];
-    if libc::read(file, &mut more) < 0 {
-        return Next::Unreadable;
+// Where no byte came: the end, or a failure.
+fn after_last(error: io::Error) -> Next {
+    match error.kind() {
+        ErrorKind::UnexpectedEof => Next::End,
+        _ => Next::Unreadable,
     }
-    Next::End
 }
 
 // Passes over n bytes, if there are so many.
-fn pass_some(file: i32, n: usize) -> bool
+fn pass_some(file: &mut impl Read, n: usize) -> bool
     requires { n ≤ 4096 }
 {
     let mut room = [0u8; 4096];
-    io::read_full(file, &mut room[..n]) == n
+    file.read_exact(&mut room[..n]).is_ok()
 }
 
 // Passes over the body of an unknown op, which may be longer than the bounds of this format allow.
-fn pass_over(file: i32, length: usize) -> Next {
+fn pass_over(file: &mut impl Read, length: usize) -> Next {
     let mut left = length;
     while 4096 < left {
         if !pass_some(file, 4096) {
@@ -64,8 +65,8 @@ fn pass_over(file: i32, length: usize) -> Next {
 }
 
 // Fills the body from the file, and runs it.
-fn run_in(file: i32, op: u8, body: &mut [u8]) -> Next {
-    if io::read_full(file, body) < body.len() {
+fn run_in(file: &mut impl Read, op: u8, body: &mut [u8]) -> Next {
+    if file.read_exact(body).is_err() {
         return Next::CutOff;
     }
     match cases::run(op, body) {
@@ -77,7 +78,7 @@ fn run_in(file: i32, op: u8, body: &mut [u8]) -> Next {
 }
 
 // Runs a known op, if the bounds allow the length of its body.
-fn run_body(file: i32, op: u8, length: usize) -> Next {
+fn run_body(file: &mut impl Read, op: u8, length: usize) -> Next {
     if LONGEST_BODY < length {
         return Next::Misfit(op);
     }
@@ -86,13 +87,12 @@ fn run_body(file: i32, op: u8, length: usize) -> Next {
 }
 
 // Reads the next case, its op and its length first.
-fn next_case(file: i32) -> Next {
+fn next_case(file: &mut impl Read) -> Next {
     let mut head = [0u8; 5];
-    let got = io::read_full(file, &mut head);
-    if got == 0 {
-        return after_last(file);
+    if let Err(error) = file.read_exact(&mut head[..1]) {
+        return after_last(error);
     }
-    if got < 5 {
+    if file.read_exact(&mut head[1..]).is_err() {
         return Next::CutOff;
     }
     let op = head[0];
@@ -104,11 +104,11 @@ fn next_case(file: i32) -> Next {
 }
 
 // A loop has to end, and nothing says that a file does: so it goes to a number of cases that no file has.
-fn replay_all(file: i32) {
+fn replay_all(rt: &impl Print, file: &mut impl Read) {
     let mut tally = Tally::new();
     let mut index: u64 = 0;
     while index < 0xffff_ffff_ffff_ffff {
-        tally = tally.with(index, next_case(file));
+        tally = tally.with(rt, index, next_case(file));
         if !tally.going {
             return;
         }
@@ -116,16 +116,17 @@ fn replay_all(file: i32) {
     }
 }
 
-fn main() {
-    let file = os::open_read(b"vectors.hrv");
-    if file < 0 {
-        report::say(b"no file: vectors.hrv is not there or can't be opened\n");
+fn main(rt: HostRuntime) {
+    let Ok(mut file) = fs::open(&rt, "vectors.hrv") else {
+        report::say(
+            &rt,
+            b"no file: vectors.hrv is not there or can't be opened\n",
+        );
+        return;
+    };
+    if !has_mark(&mut file) {
+        report::say(&rt, b"no mark: vectors.hrv doesn't begin with HRV1\n");
         return;
     }
-    if !has_mark(file) {
-        report::say(b"no mark: vectors.hrv doesn't begin with HRV1\n");
-        return;
-    }
-    replay_all(file);
-    libc::close(file);
+    replay_all(&rt, &mut file);
 }

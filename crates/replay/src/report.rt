@@ -1,7 +1,6 @@
 // Counting the outcomes, and the lines that are printed.
 use crate::Next;
 use crate::names::say_field;
-use libc::STDOUT_FILENO;
 
 // So many of the cases that differ have a line each.
 const MOST_LINES: u64 = 20;
@@ -15,22 +14,23 @@ pub(crate) struct Tally {
     pub unknown: u64,
 }
 
-pub(crate) fn say(text: &[u8]) {
-    io::write_all(STDOUT_FILENO, text);
+// What can't be written is left out, and the run goes on.
+pub(crate) fn say(rt: &impl Print, text: &[u8]) {
+    let _ = rt.write_all(text);
 }
 
-fn say_number(n: u64) {
-    io::print_decimal(STDOUT_FILENO, n);
+fn say_number(rt: &impl Print, n: u64) {
+    let _ = rt.print(n);
 }
 
-fn say_case(index: u64) {
-    say(b"case ");
-    say_number(index);
+fn say_case(rt: &impl Print, index: u64) {
+    say(rt, b"case ");
+    say_number(rt, index);
 }
 
-fn say_op(op: u8) {
-    say(b" op ");
-    say_number(op as u64);
+fn say_op(rt: &impl Print, op: u8) {
+    say(rt, b" op ");
+    say_number(rt, op as u64);
 }
 
 // One more, up to a number that no count reaches.
@@ -55,14 +55,14 @@ impl Tally {
     }
 
     // With a case that differs.
-    fn differing(mut self, index: u64, op: u8, field: usize) -> Self {
+    fn differing(mut self, rt: &impl Print, index: u64, op: u8, field: usize) -> Self {
         self.differ = more(self.differ);
         if self.differ <= MOST_LINES {
-            say_case(index);
-            say_op(op);
-            say(b": ");
-            say_field(op, field);
-            say(b"\n");
+            say_case(rt, index);
+            say_op(rt, op);
+            say(rt, b": ");
+            say_field(rt, op, field);
+            say(rt, b"\n");
         }
         self
     }
@@ -74,48 +74,48 @@ impl Tally {
     }
 
     // At the end of the file. Cases of unknown ops are no cases of this format, and not counted among them.
-    fn finished(mut self) -> Self {
+    fn finished(mut self, rt: &impl Print) -> Self {
         if 0 < self.unknown {
-            say_number(self.unknown);
-            say(b" of unknown ops passed over\n");
+            say_number(rt, self.unknown);
+            say(rt, b" of unknown ops passed over\n");
         }
-        say_number(self.cases);
-        say(b" cases, ");
-        say_number(self.differ);
-        say(b" differ\n");
+        say_number(rt, self.cases);
+        say(rt, b" cases, ");
+        say_number(rt, self.differ);
+        say(rt, b" differ\n");
         self.going = false;
         self
     }
 
     // Where the file is given up. What was counted before is not printed: it is no answer.
-    fn given_up(mut self, why: &[u8]) -> Self {
-        say(why);
+    fn given_up(mut self, rt: &impl Print, why: &[u8]) -> Self {
+        say(rt, why);
         self.going = false;
         self
     }
 
     // With what came at a place in the file.
-    pub(crate) fn with(self, index: u64, next: Next) -> Self {
+    pub(crate) fn with(self, rt: &impl Print, index: u64, next: Next) -> Self {
         match next {
             Next::Same => self.ran(),
-            Next::Differs(op, field) => self.ran().differing(index, op, field),
+            Next::Differs(op, field) => self.ran().differing(rt, index, op, field),
             Next::Unknown => self.passing(),
-            Next::End => self.finished(),
+            Next::End => self.finished(rt),
             Next::Misfit(op) => {
-                say(b"damaged: ");
-                say_case(index);
-                say_op(op);
-                self.given_up(b" has a body that the op doesn't allow\n")
+                say(rt, b"damaged: ");
+                say_case(rt, index);
+                say_op(rt, op);
+                self.given_up(rt, b" has a body that the op doesn't allow\n")
             }
             Next::CutOff => {
-                say(b"damaged: ");
-                say_case(index);
-                self.given_up(b" is cut off\n")
+                say(rt, b"damaged: ");
+                say_case(rt, index);
+                self.given_up(rt, b" is cut off\n")
             }
             Next::Unreadable => {
-                say(b"unreadable: ");
-                say_case(index);
-                self.given_up(b" can't be read\n")
+                say(rt, b"unreadable: ");
+                say_case(rt, index);
+                self.given_up(rt, b" can't be read\n")
             }
         }
     }
