@@ -10,7 +10,6 @@ use Rattle.rules.specs.Basics.{pick, Under, onto}
 use Rattle.rules.specs.Cells.{cells, unpack}
 use Rattle.rules.specs.Demands.{Wrote}
 use Rattle.rules.proofs.Laws.Demands.{front_accepts, front_accepted, front_cells, output_writes, output_wrote}
-use Rattle.rules.proofs.Laws.Form.{reads}
 use Rattle.rules.specs.Jobs.{read_front, Output, wrote, not, fitted, put_out, output, write_cells, written_of, output_after, written_fields}
 use Rattle.rules.specs.Parser.{Res, got, bad}
 use Rattle.rules.specs.Refusals.{output_small, cells_left_at}

@@ -3,6 +3,6 @@ use Rattle.encode.proofs.write_part.Goals as goal
 
 pub returns : goal.returns
 returns c = record {
-    answers = part_settled c.args.part c.args.table.now c.args.cells.now _ _ _ c.put_part.ensures.answers c.settled.ensures;
-    writes = c.put_part.ensures.writes;
-  }
+  answers = part_settled c.args.part c.args.table.now c.args.cells.now _ _ _ c.put_part.ensures.answers c.settled.ensures;
+  writes = c.put_part.ensures.writes;
+}

@@ -28,6 +28,6 @@ pub returns-in-Join : goal.returns-in-Join
 returns-in-Join c =
     let J = planned_joins _ c.args.buf.now _ _ _ _ _ _ _ _ c.in-Join.is c.planned.ensures in
     record {
-        answers = join_answers _ _ _ _ _ _ _ _ _ J;
-        writes = join_leaves _ _ _ _ _ _ _ _ _ J _ _ c.replace_head.ensures c.replace_head.auto.buf c.write_items.ensures.writes
+      answers = join_answers _ _ _ _ _ _ _ _ _ J;
+      writes = join_leaves _ _ _ _ _ _ _ _ _ J _ _ c.replace_head.ensures c.replace_head.auto.buf c.write_items.ensures.writes;
     }

@@ -1,4 +1,3 @@
-use Prim.Native.Nat.{◌-◌}
 use native.Mathlib.Omega.{arith}
 use Rattle.report.proofs.Writing.{first_put, put_length, byte_more, all_put}
 use Rattle.report.proofs.put.Goals as goal

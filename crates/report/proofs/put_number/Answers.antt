@@ -20,6 +20,6 @@ returns c =
     let put = c.put-end.ensures in
     let d = decimal_is _ _ c.ranges.n.fits told.len in
     record {
-        puts = then (same_text (told.digits ∙ d.1) put) (byte_put _ _ _ _ c.store.ensures);
-        short = omega (arith, d.0, told.in_bounds, put.ends)
+      puts = then (same_text (told.digits ∙ d.1) put) (byte_put _ _ _ _ c.store.ensures);
+      short = omega (arith, d.0, told.in_bounds, put.ends);
     }

@@ -5,6 +5,6 @@ use Rattle.report.proofs.put_two.Goals as goal
 
 pub returns : goal.returns
 returns c = record {
-    puts = then c.put_number-next.ensures.puts c.put_number.ensures.puts;
-    short = search rules;
-  }
+  puts = then c.put_number-next.ensures.puts c.put_number.ensures.puts;
+  short = search rules;
+}
