@@ -2,7 +2,7 @@
 """respell.py [ROOT]    brings the project's own definitions and lemmas to snake case, once, after the kit's port.py
 
 Names of specs/ and of the lemma files of proofs/ that are in camel case (readFront) or have a dash (read-accepts) become read_front and
-read_accepts. Types and modules keep their capitals. A lemma that would get its function's name gets _lem behind it. Functions of
+read_accepts, and so do names that a file gives to what it imports (leafNode). Types and modules keep their capitals. A lemma that would get its function's name gets _lem behind it. Functions of
 src/, strings, inputs and outputs keep their names. Turned: every .antt, the clauses, ghost imports and comments of every .rt, the
 must-fail edits, and what stands between backticks in the pages. A name behind a dot is turned where it is a field of ours, and left
 where it is a step of a proof.
@@ -34,7 +34,7 @@ def declared(root):
     """The names that files of specs/ and lemma files declare, at the head of a line with ' : '."""
     found = set()
     for path in files(os.path.join(root, "crates"), ".antt"):
-        if os.path.basename(path) == "Proof.antt":
+        if os.path.basename(path) in ("Proof.antt", "Answers.antt", "Invariants.antt") and "/proofs/" in path.replace(os.sep, "/").rsplit("/", 1)[0]:
             continue
         for line in text(path).split("\n"):
             line = line.strip()
@@ -55,6 +55,14 @@ def foreign(root):
         for m in re.finditer(r"(?m)^(?:ghost )?(?:pub )?use ([^\s{]+)\.\{([^}]*)\}", text(path)):
             if not re.match(rf"Rattle\.(?:{own})\.", m.group(1)):
                 found.update(w.split(" as ")[0].strip() for w in m.group(2).split(","))
+    return found
+
+
+def aliases(root):
+    """Names in camel case that a file gives to what it imports."""
+    found = set()
+    for path in files(os.path.join(root, "crates"), ".antt", ".rt"):
+        found.update(re.findall(r"\bas ([a-z][a-z0-9_]*[A-Z]\w*)", text(path)))
     return found
 
 
@@ -138,6 +146,7 @@ def main(argv):
     root = argv[0] if argv else "."
     taken = declared(root) - foreign(root)
     new = turned(taken)
+    new.update((a, re.sub(r"([a-z0-9])([A-Z])", r"\1_\2", a).lower()) for a in aliases(root))
     also = everywhere(taken, new)
     for a, b in sorted(new.items()):
         if b in taken and b not in new:

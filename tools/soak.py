@@ -6,7 +6,7 @@ For each seed from FIRST to LAST two files of CASES cases are made, one at the e
 crate and its two counters (crate-oracle/). Fifty seeds with 10000 cases are a million cases. Any
 split of the seeds gives the same cases, so parts can run apart and on several machines.
 
-`rt check replay` and crate-oracle/build.sh have to have been run, or left out by the two flags. A
+`rt run` in crates/replay and crate-oracle/build.sh have to have been run, or left out by the two flags. A
 line is printed for each file, the tables at the end; it exits with 1 if anything differs, and keeps
 the file that does. ORDERS is 10,2,3 for one, or none; left out, it is those that have landed, and
 `replay` knows no others.

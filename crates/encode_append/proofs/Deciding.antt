@@ -36,26 +36,26 @@ use Rattle.rules.proofs.Laws.Wire.{placed_says}
 use Rattle.rules.specs.declared.Check.{Check}
 use Rattle.rules.specs.declared.Check.TheVariants.{Fine as fine, Refused as wrong}
 use Rattle.rules.specs.declared.Node.{Node}
-use Rattle.rules.specs.declared.Node.TheVariants.{Leaf as leafNode, Option as optionNode, Result as resultNode, Pair as pairNode, Array as arrayNode, Vector as vectorNode, Bits as bitsNode, Unknown as unknown}
+use Rattle.rules.specs.declared.Node.TheVariants.{Leaf as leaf_node, Option as option_node, Result as result_node, Pair as pair_node, Array as array_node, Vector as vector_node, Bits as bits_node, Unknown as unknown}
 use Rattle.rules.specs.declared.Refusal.{Refusal}
 use Rattle.rules.specs.declared.Width.TheVariants.{W4 as w4}
 use Rattle.rules.specs.declared.Written.{Written}
-use Rattle.rules.specs.declared.Written.TheVariants.{Bytes as wroteBytes, Refused as notWritten}
+use Rattle.rules.specs.declared.Written.TheVariants.{Bytes as wrote_bytes, Refused as not_written}
 use Rattle.node.specs.Laws.{node_good, no_vector}
 use Rattle.encode_append.specs.Answers.{Held, by_used, held_append, few_append, why_refused}
-use Rattle.encode_append.specs.Joins.{heads, noHeads, root_check, lengths_of, items_behind, bytes_of, Joins}
+use Rattle.encode_append.specs.Joins.{heads, no_heads, root_check, lengths_of, items_behind, bytes_of, Joins}
 
 -- ---- the root
 
 -- the check of a root that is a vector
 of_vector_lem : (g : ℕ → Ty) (n : Node) → OneOf (5 ∷ []) (tag_of node-type n) → of_vector (λ _. fine) (wrong append_root) (build g n) ≡ fine
-of_vector_lem g (leafNode k) h = absurd (miss (5 ∷ []) 0 tt h)
-of_vector_lem g (optionNode a) h = absurd (miss (5 ∷ []) 1 tt h)
-of_vector_lem g (resultNode a b) h = absurd (miss (5 ∷ []) 2 tt h)
-of_vector_lem g (pairNode a b) h = absurd (miss (5 ∷ []) 3 tt h)
-of_vector_lem g (arrayNode n a) h = absurd (miss (5 ∷ []) 4 tt h)
-of_vector_lem g (vectorNode a) h = refl
-of_vector_lem g bitsNode h = absurd (miss (5 ∷ []) 6 tt h)
+of_vector_lem g (leaf_node k) h = absurd (miss (5 ∷ []) 0 tt h)
+of_vector_lem g (option_node a) h = absurd (miss (5 ∷ []) 1 tt h)
+of_vector_lem g (result_node a b) h = absurd (miss (5 ∷ []) 2 tt h)
+of_vector_lem g (pair_node a b) h = absurd (miss (5 ∷ []) 3 tt h)
+of_vector_lem g (array_node n a) h = absurd (miss (5 ∷ []) 4 tt h)
+of_vector_lem g (vector_node a) h = refl
+of_vector_lem g bits_node h = absurd (miss (5 ∷ []) 6 tt h)
 of_vector_lem g unknown h = absurd (miss (5 ∷ []) 7 tt h)
 
 module _ (tb : List ℕ) (n : Node) (f : check_table tb ≡ fine) (e : n ≡ node_in tb (count tb - 1)) where
@@ -142,12 +142,12 @@ module _ (s : List ℕ) (some : length s ≡ 0 → ⊥) (r : Reading) (e : r ≡
       let w : whole low high ≡ low = rw none (omega arith) in
       behind_some ∙ ap (placed 0) (said_back (compact_from (size w4) s) (Value low high used) g) ∙ ap (λ x. got x used) w
 
-  pub count_unread : (k : ℕ) (y : Refusal) → y ≡ append_head → OneOf (1 ∷ 2 ∷ 3 ∷ []) (tag_of reading-type r) → noHeads y ≡ lengths_of k (old_count s)
+  pub count_unread : (k : ℕ) (y : Refusal) → y ≡ append_head → OneOf (1 ∷ 2 ∷ 3 ∷ []) (tag_of reading-type r) → no_heads y ≡ lengths_of k (old_count s)
   unfolding placed lengths_of
   count_unread k y ey h =
-      ap noHeads ey ∙ sym (ap (lengths_of k) behind_some ∙ go (compact_from (size w4) s) (subst (λ x. OneOf (1 ∷ 2 ∷ 3 ∷ []) (tag_of reading-type x)) e h))
+      ap no_heads ey ∙ sym (ap (lengths_of k) behind_some ∙ go (compact_from (size w4) s) (subst (λ x. OneOf (1 ∷ 2 ∷ 3 ∷ []) (tag_of reading-type x)) e h))
     where
-      go : (a : Answer) → OneOf (1 ∷ 2 ∷ 3 ∷ []) (tag_of reading-type (in_halves a)) → lengths_of k (placed 0 a) ≡ noHeads append_head
+      go : (a : Answer) → OneOf (1 ∷ 2 ∷ 3 ∷ []) (tag_of reading-type (in_halves a)) → lengths_of k (placed 0 a) ≡ no_heads append_head
       go (value v n) g = absurd (miss (1 ∷ 2 ∷ 3 ∷ []) 0 tt g)
       go short g = refl
       go prefix g = refl
@@ -160,17 +160,17 @@ count_none (b ∷ s) h = absurd (omega arith)
 
 -- the old count and k more
 module _ (k old len : ℕ) where
-  pub count_many : (y : Refusal) → y ≡ append_count → max_count - old < k → noHeads y ≡ lengths_of k (got old len)
+  pub count_many : (y : Refusal) → y ≡ append_count → max_count - old < k → no_heads y ≡ lengths_of k (got old len)
   unfolding lengths_of
   count_many y ey h =
-      ap noHeads ey ∙ sym (ap (λ b. pick b (heads (old + k) len (length (compact_bytes (old + k)))) (noHeads append_count)) (lt-leb (old + k) max_count (omega arith)))
+      ap no_heads ey ∙ sym (ap (λ b. pick b (heads (old + k) len (length (compact_bytes (old + k)))) (no_heads append_count)) (lt-leb (old + k) max_count (omega arith)))
 
   pub count_few : (n : ℕ) → old ≤ max_count → k ≤ max_count - old → n ≡ length (compact_bytes (whole (old + k) 0)) → heads (old + k) len n ≡ lengths_of k (got old len)
   unfolding lengths_of
   count_few n g h en =
       let w : whole (old + k) 0 ≡ old + k = omega arith in
       ap (heads (old + k) len) (en ∙ ap (λ x. length (compact_bytes x)) w)
-      ∙ sym (ap (λ b. pick b (heads (old + k) len (length (compact_bytes (old + k)))) (noHeads append_count)) (le-leb (old + k) max_count (omega arith)))
+      ∙ sym (ap (λ b. pick b (heads (old + k) len (length (compact_bytes (old + k)))) (no_heads append_count)) (le-leb (old + k) max_count (omega arith)))
 
 -- what the heads say
 pub record Headed (k : ℕ) (R : Res ℕ) (count old new : ℕ) : Type 0 where
@@ -184,7 +184,7 @@ pub headed : (k : ℕ) (R : Res ℕ) (count old new : ℕ) → lengths_of k R �
 unfolding lengths_of
 headed k (got c n) count old new e = go (leb (c + k) max_count) refl e
   where
-    go : (b : Bool) → leb (c + k) max_count ≡ b → pick b (heads (c + k) n (length (compact_bytes (c + k)))) (noHeads append_count) ≡ heads count old new → Headed k (got c n) count old new
+    go : (b : Bool) → leb (c + k) max_count ≡ b → pick b (heads (c + k) n (length (compact_bytes (c + k)))) (no_heads append_count) ≡ heads count old new → Headed k (got c n) count old new
     go true f g =
         let a : c + k ≡ count = cc in
         let b : n ≡ old = cc in
@@ -195,11 +195,11 @@ headed k (got c n) count old new e = go (leb (c + k) max_count) refl e
 headed k (bad y) count old new e = absurd (let z : ◌≡◌ {A = ℕ} 0 1 = cc in omega arith)
 
 -- 32 and 33
-pub unheaded : (t : Ty) (s : List ℕ) (k : ℕ) (cs : List ℕ) (room : ℕ) (R : Res ℕ) (y : Refusal) → lengths_of k R ≡ noHeads y → append_from t s k cs room R ≡ not y
+pub unheaded : (t : Ty) (s : List ℕ) (k : ℕ) (cs : List ℕ) (room : ℕ) (R : Res ℕ) (y : Refusal) → lengths_of k R ≡ no_heads y → append_from t s k cs room R ≡ not y
 unfolding lengths_of append_from
 unheaded t s k cs room (got c n) y e = go (leb (c + k) max_count) e
   where
-    go : (b : Bool) → pick b (heads (c + k) n (length (compact_bytes (c + k)))) (noHeads append_count) ≡ noHeads y
+    go : (b : Bool) → pick b (heads (c + k) n (length (compact_bytes (c + k)))) (no_heads append_count) ≡ no_heads y
         → pick b (put_out (length cs) room (joined t (c + k) n s) (times k (unpack t) 0 cs)) (not append_count) ≡ not y
     go true g = absurd (let z : ◌≡◌ {A = ℕ} 0 1 = cc in omega arith)
     go false g = let q : append_count ≡ y = cc in ap not q
@@ -289,38 +289,38 @@ module _ (end room : ℕ) where
   behind_fits l h = ap (λ b. pick b (not output_small) (wrote l)) (le-ltb room (end + length l) h)
 
   -- an answer of the items' size, and 22 after it
-  pub sized_not : (O : Output) (q : Written) (y : Refusal) → q ≡ written_of O → q ≡ notWritten y → notWritten y ≡ written_of (items_behind end room O)
+  pub sized_not : (O : Output) (q : Written) (y : Refusal) → q ≡ written_of O → q ≡ not_written y → not_written y ≡ written_of (items_behind end room O)
   unfolding items_behind
-  sized_not (wrote l) q y e f = absurd (let g : wroteBytes (length l) ≡ notWritten y = sym e ∙ f in let z : ◌≡◌ {A = ℕ} 0 1 = cc in omega arith)
+  sized_not (wrote l) q y e f = absurd (let g : wrote_bytes (length l) ≡ not_written y = sym e ∙ f in let z : ◌≡◌ {A = ℕ} 0 1 = cc in omega arith)
   sized_not (not x) q y e f = sym f ∙ e
 
-  pub sized_small : (O : Output) (q : Written) (n : ℕ) (y : Refusal) → q ≡ written_of O → q ≡ wroteBytes n → y ≡ output_small → room < end + n → notWritten y ≡ written_of (items_behind end room O)
+  pub sized_small : (O : Output) (q : Written) (n : ℕ) (y : Refusal) → q ≡ written_of O → q ≡ wrote_bytes n → y ≡ output_small → room < end + n → not_written y ≡ written_of (items_behind end room O)
   sized_small (wrote l) q n y e f ey h =
-      let g : wroteBytes (length l) ≡ wroteBytes n = sym e ∙ f in
+      let g : wrote_bytes (length l) ≡ wrote_bytes n = sym e ∙ f in
       let k : length l ≡ n = cc in
-      ap notWritten ey ∙ sym (ap written_of (behind_small l (omega arith)))
-  sized_small (not x) q n y e f ey h = absurd (let g : notWritten x ≡ wroteBytes n = sym e ∙ f in let z : ◌≡◌ {A = ℕ} 0 1 = cc in omega arith)
+      ap not_written ey ∙ sym (ap written_of (behind_small l (omega arith)))
+  sized_small (not x) q n y e f ey h = absurd (let g : not_written x ≡ wrote_bytes n = sym e ∙ f in let z : ◌≡◌ {A = ℕ} 0 1 = cc in omega arith)
 
-  pub sized_fits : (O : Output) (q : Written) (n : ℕ) → q ≡ written_of O → q ≡ wroteBytes n → end + n ≤ room → wroteBytes n ≡ written_of (items_behind end room O)
+  pub sized_fits : (O : Output) (q : Written) (n : ℕ) → q ≡ written_of O → q ≡ wrote_bytes n → end + n ≤ room → wrote_bytes n ≡ written_of (items_behind end room O)
   sized_fits (wrote l) q n e f h =
-      let g : wroteBytes (length l) ≡ wroteBytes n = sym e ∙ f in
+      let g : wrote_bytes (length l) ≡ wrote_bytes n = sym e ∙ f in
       let k : length l ≡ n = cc in
-      sym (ap written_of (behind_fits l (omega arith)) ∙ ap wroteBytes k)
-  sized_fits (not x) q n e f h = absurd (let g : notWritten x ≡ wroteBytes n = sym e ∙ f in let z : ◌≡◌ {A = ℕ} 0 1 = cc in omega arith)
+      sym (ap written_of (behind_fits l (omega arith)) ∙ ap wrote_bytes k)
+  sized_fits (not x) q n e f h = absurd (let g : not_written x ≡ wrote_bytes n = sym e ∙ f in let z : ◌≡◌ {A = ℕ} 0 1 = cc in omega arith)
 
   -- and what that says of the items
-  behind_not : (O : Output) (y : Refusal) → notWritten y ≡ written_of (items_behind end room O) → items_behind end room O ≡ not y
+  behind_not : (O : Output) (y : Refusal) → not_written y ≡ written_of (items_behind end room O) → items_behind end room O ≡ not y
   behind_not O y e = go (items_behind end room O) e
     where
-      go : (x : Output) → notWritten y ≡ written_of x → x ≡ not y
+      go : (x : Output) → not_written y ≡ written_of x → x ≡ not y
       go (wrote l) f = absurd (let z : ◌≡◌ {A = ℕ} 0 1 = cc in omega arith)
       go (not x) f = let q : y ≡ x = cc in ap not (sym q)
 
-  behind_wrote : (O : Output) (n : ℕ) → wroteBytes n ≡ written_of (items_behind end room O) → (O ≡ wrote (bytes_of O)) × (n ≡ length (bytes_of O)) × (end + n ≤ room)
+  behind_wrote : (O : Output) (n : ℕ) → wrote_bytes n ≡ written_of (items_behind end room O) → (O ≡ wrote (bytes_of O)) × (n ≡ length (bytes_of O)) × (end + n ≤ room)
   unfolding items_behind
   behind_wrote (wrote l) n e = go (ltb room (end + length l)) refl e
     where
-      go : (b : Bool) → ltb room (end + length l) ≡ b → wroteBytes n ≡ written_of (pick b (not output_small) (wrote l)) → (wrote l ≡ wrote l) × (n ≡ length l) × (end + n ≤ room)
+      go : (b : Bool) → ltb room (end + length l) ≡ b → wrote_bytes n ≡ written_of (pick b (not output_small) (wrote l)) → (wrote l ≡ wrote l) × (n ≡ length l) × (end + n ≤ room)
       go true g f = absurd (let z : ◌≡◌ {A = ℕ} 0 1 = cc in omega arith)
       go false g f = let q : n ≡ length l = cc in (refl, q, omega (arith, ltb-false room (end + length l) g))
   behind_wrote (not y) n e = absurd (let z : ◌≡◌ {A = ℕ} 0 1 = cc in omega arith)
@@ -359,10 +359,10 @@ module _ (tb buf : List ℕ) (used k : ℕ) (cs : List ℕ) (count old new : ℕ
       ∙ put_within (length cs) (length buf) (new + (used - old)) (joined_bytes buf used count old) (put (array k R.item) 0 cs) longer short_items
       ∙ ap (λ o. within (joined_bytes buf used count old) (items_behind (new + (used - old)) (length buf) o)) (sym (items_put tb R k cs (2 ^ 64 - 1)))
 
-  pub plan_not : (q : Written) (y : Refusal) → q ≡ written_of (items_behind (new + (used - old)) (length buf) (write_items tb k cs (2 ^ 64 - 1))) → q ≡ notWritten y → append tb buf used k cs ≡ not y
+  pub plan_not : (q : Written) (y : Refusal) → q ≡ written_of (items_behind (new + (used - old)) (length buf) (write_items tb k cs (2 ^ 64 - 1))) → q ≡ not_written y → append tb buf used k cs ≡ not y
   plan_not q y e f = appended_within ∙ ap (within (joined_bytes buf used count old)) (behind_not (new + (used - old)) (length buf) (write_items tb k cs (2 ^ 64 - 1)) y (sym f ∙ e))
 
-  pub plan_joins : (q : Written) (n : ℕ) → q ≡ written_of (items_behind (new + (used - old)) (length buf) (write_items tb k cs (2 ^ 64 - 1))) → q ≡ wroteBytes n → Joins tb buf used k cs count old new n
+  pub plan_joins : (q : Written) (n : ℕ) → q ≡ written_of (items_behind (new + (used - old)) (length buf) (write_items tb k cs (2 ^ 64 - 1))) → q ≡ wrote_bytes n → Joins tb buf used k cs count old new n
   plan_joins q n e f =
       let O = write_items tb k cs (2 ^ 64 - 1) in
       let b = behind_wrote (new + (used - old)) (length buf) O n (sym f ∙ e) in

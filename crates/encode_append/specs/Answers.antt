@@ -27,7 +27,7 @@ use Rattle.rules.specs.declared.Leaf.TheVariants.{Compact as compact}
 use Rattle.rules.specs.declared.Refusal.{Refusal}
 use Rattle.rules.specs.declared.Width.TheVariants.{W4 as w4}
 use Rattle.rules.specs.declared.Written.{Written}
-use Rattle.rules.specs.declared.Written.TheVariants.{Bytes as wroteBytes, Refused as notWritten}
+use Rattle.rules.specs.declared.Written.TheVariants.{Bytes as wrote_bytes, Refused as not_written}
 -- that any two answers are equal, that a refusal leaves the buffer, and that the bytes past what is written stay, is said once for every job that writes:
 pub use Rattle.encode.specs.Answers.{Contract, one_writing, refusal_leaves, written_front}
 
@@ -216,22 +216,22 @@ module _ (tb buf : List ℕ) (used k : ℕ) (cs : List ℕ) where
 
 module _ (tb buf : List ℕ) (used k : ℕ) (cs : List ℕ) (r : Written) (m : List ℕ) (c : Contract (append tb buf used k cs) buf r m) where
   -- DEMAND 1: each refusal is given exactly where the rules' list says, and leaves the buffer
-  pub append_refused : (y : Refusal) → r ≡ notWritten y → Why tb buf used k cs y
+  pub append_refused : (y : Refusal) → r ≡ not_written y → Why tb buf used k cs y
   append_refused y e = go (append tb buf used k cs) refl
     where
       go : (o : Output) → append tb buf used k cs ≡ o → Why tb buf used k cs y
-      go (wrote l) q = absurd (let f : wroteBytes (length l) ≡ notWritten y = sym (ap written_of q) ∙ sym c.answers ∙ e in let z : ◌≡◌ {A = ℕ} 0 1 = cc in omega arith)
-      go (not x) q = let f : notWritten x ≡ notWritten y = sym (ap written_of q) ∙ sym c.answers ∙ e in let z : x ≡ y = cc in refused_why tb buf used k cs y (q ∙ ap not z)
+      go (wrote l) q = absurd (let f : wrote_bytes (length l) ≡ not_written y = sym (ap written_of q) ∙ sym c.answers ∙ e in let z : ◌≡◌ {A = ℕ} 0 1 = cc in omega arith)
+      go (not x) q = let f : not_written x ≡ not_written y = sym (ap written_of q) ∙ sym c.answers ∙ e in let z : x ≡ y = cc in refused_why tb buf used k cs y (q ∙ ap not z)
 
-  pub append_refuses : (y : Refusal) → Why tb buf used k cs y → (r ≡ notWritten y) × (m ≡ buf)
+  pub append_refuses : (y : Refusal) → Why tb buf used k cs y → (r ≡ not_written y) × (m ≡ buf)
   append_refuses y h = let e = why_refused tb buf used k cs y h in (c.answers ∙ ap written_of e, c.writes ∙ ap (λ o. output_after o buf) e)
 
   -- DEMAND 2: what an accepted append leaves, exactly if there are such items and they have room
   pub append_accepts : (t : Ty) (o n : ℕ) (w : List (Val t)) → Appended tb buf used k cs t o n w
-      → (r ≡ wroteBytes (length (joined t (o + k) n (take used buf) w))) × (m ≡ onto (joined t (o + k) n (take used buf) w) buf)
+      → (r ≡ wrote_bytes (length (joined t (o + k) n (take used buf) w))) × (m ≡ onto (joined t (o + k) n (take used buf) w) buf)
   append_accepts t o n w A = let e = append_wrote tb buf used k cs t o n w A in (c.answers ∙ ap written_of e, c.writes ∙ ap (λ x. output_after x buf) e)
 
-  pub append_accepted : Under (2 ^ 64) cs → (i : ℕ) → r ≡ wroteBytes i
+  pub append_accepted : Under (2 ^ 64) cs → (i : ℕ) → r ≡ wrote_bytes i
       → (t : Ty) × ((o : ℕ) × ((n : ℕ) × ((w : List (Val t)) × (Appended tb buf used k cs t o n w × (i ≡ length (joined t (o + k) n (take used buf) w)) × (m ≡ onto (joined t (o + k) n (take used buf) w) buf)))))
   append_accepted u i e =
       let f = written_front (append tb buf used k cs) buf r m i c e in
@@ -240,13 +240,13 @@ module _ (tb buf : List ℕ) (used k : ℕ) (cs : List ℕ) (r : Written) (m : L
       (a.0, (a.1.0, (a.1.1.0, (a.1.1.1.0, (a.1.1.1.1.0, sym f.2 ∙ ap length b, f.3 ∙ ap (λ x. onto x buf) b)))))
 
   -- the bytes past the new used length stay
-  pub append_stays : (i : ℕ) → r ≡ wroteBytes i → drop i m ≡ drop i buf
+  pub append_stays : (i : ℕ) → r ≡ wrote_bytes i → drop i m ≡ drop i buf
   append_stays i e =
       let f = written_front (append tb buf used k cs) buf r m i c e in
       ap (drop i) f.3 ∙ drop_at f.0 (drop (length f.0) buf) i f.2 ∙ ap (λ x. drop x buf) f.2
 
   -- a job that is fitted: its bytes where there is room, and else 22
-  fits_in : (l : List ℕ) → append tb buf used k cs ≡ fitted (length buf) l → length l ≤ length buf → (r ≡ wroteBytes (length l)) × (m ≡ onto l buf)
+  fits_in : (l : List ℕ) → append tb buf used k cs ≡ fitted (length buf) l → length l ≤ length buf → (r ≡ wrote_bytes (length l)) × (m ≡ onto l buf)
   fits_in l e h =
       let q : append tb buf used k cs ≡ wrote l = e ∙ ap (λ b. pick b (not output_small) (wrote l)) (le-ltb (length buf) (length l) h) in
       (c.answers ∙ ap written_of q, c.writes ∙ ap (λ x. output_after x buf) q)
@@ -254,27 +254,27 @@ module _ (tb buf : List ℕ) (used k : ℕ) (cs : List ℕ) (r : Written) (m : L
   -- DEMAND 2's sentence on append: to a vector v as the writer gives it, the items w make the encoding of the joined items
   pub append_joined : (t : Ty) (v w : List (Val t)) → Held tb buf used t → take used buf ≡ encode (vector t) v → All (Fits t) w → k ≡ length w → cs ≡ flat (cells t) w
       → length v + length w ≤ max_count → length (encode (vector t) (v ++ w)) ≤ length buf
-      → (r ≡ wroteBytes (length (encode (vector t) (v ++ w)))) × (m ≡ onto (encode (vector t) (v ++ w)) buf)
+      → (r ≡ wrote_bytes (length (encode (vector t) (v ++ w)))) × (m ≡ onto (encode (vector t) (v ++ w)) buf)
   append_joined t v w H e f ek ec few h =
       fits_in (encode (vector t) (v ++ w)) (ap₂ (append tb buf used) ek ec ∙ appended_joins tb buf t used v w H.checked H.rooted H.there e f few) h
 
   -- and where no byte is used they make a vector by themselves
   pub append_new : (t : Ty) (w : List (Val t)) → Held tb buf used t → used ≡ 0 → All (Fits t) w → k ≡ length w → cs ≡ flat (cells t) w → length w ≤ max_count → length (encode (vector t) w) ≤ length buf
-      → (r ≡ wroteBytes (length (encode (vector t) w))) × (m ≡ onto (encode (vector t) w) buf)
+      → (r ≡ wrote_bytes (length (encode (vector t) w))) × (m ≡ onto (encode (vector t) w) buf)
   append_new t w H z f ek ec few h =
       fits_in (encode (vector t) w)
       (append_at tb buf t used k cs H.checked H.rooted H.there ∙ ap (λ x. append_items t (take x buf) k cs (length buf)) z
       ∙ ap₂ (λ x y. append_items t [] x y (length buf)) ek ec ∙ append_first t w (length buf) f few) h
 
   -- no items change nothing, but that where no byte is used they make the empty vector, 00
-  pub append_nothing : (t : Ty) (o n : ℕ) → Held tb buf used t → Under 256 buf → leaf_from (compact w4) 0 (take used buf) ≡ got o n → k ≡ 0 → cs ≡ [] → (r ≡ wroteBytes used) × (m ≡ buf)
+  pub append_nothing : (t : Ty) (o n : ℕ) → Held tb buf used t → Under 256 buf → leaf_from (compact w4) 0 (take used buf) ≡ got o n → k ≡ 0 → cs ≡ [] → (r ≡ wrote_bytes used) × (m ≡ buf)
   append_nothing t o n H u e ek ec =
       let l : length (take used buf) ≡ used = length-take-le used buf H.there in
       let a = fits_in (take used buf)
       (append_at tb buf t used k cs H.checked H.rooted H.there ∙ ap₂ (λ x y. append_items t (take used buf) x y (length buf)) ek ec
       ∙ append_none t (take used buf) (length buf) o n (under_take 256 used buf u) e) (omega (arith, l, H.there)) in
-      (a.0 ∙ ap wroteBytes l, a.1 ∙ ap (λ x. take used buf ++ drop x buf) l ∙ take-append-drop used buf)
+      (a.0 ∙ ap wrote_bytes l, a.1 ∙ ap (λ x. take used buf ++ drop x buf) l ∙ take-append-drop used buf)
 
-  pub append_empty : (t : Ty) → Held tb buf used t → used ≡ 0 → k ≡ 0 → cs ≡ [] → 1 ≤ length buf → (r ≡ wroteBytes 1) × (m ≡ onto (0 ∷ []) buf)
+  pub append_empty : (t : Ty) → Held tb buf used t → used ≡ 0 → k ≡ 0 → cs ≡ [] → 1 ≤ length buf → (r ≡ wrote_bytes 1) × (m ≡ onto (0 ∷ []) buf)
   unfolding write leaf_bytes compact_bytes le_bytes
   append_empty t H z ek ec h = append_new t [] H z tt ek ec (omega arith) h

@@ -9,9 +9,9 @@ use Rattle.rules.specs.Table.{root, check_table, after_check}
 use Rattle.rules.specs.declared.Check.{Check}
 use Rattle.rules.specs.declared.Check.TheVariants.{Fine as fine, Refused as wrong}
 pub use Rattle.encode_append.specs.declared.Lengths.{Lengths}
-pub use Rattle.encode_append.specs.declared.Lengths.TheVariants.{Of as heads, Refused as noHeads}
+pub use Rattle.encode_append.specs.declared.Lengths.TheVariants.{Of as heads, Refused as no_heads}
 pub use Rattle.encode_append.specs.declared.Plan.{Plan}
-pub use Rattle.encode_append.specs.declared.Plan.TheVariants.{Join as joining, Refused as noPlan}
+pub use Rattle.encode_append.specs.declared.Plan.TheVariants.{Join as joining, Refused as no_plan}
 
 -- the table's check, and then 30
 unfoldable pub root_check : List ℕ → Check
@@ -19,8 +19,8 @@ root_check tb = after_check (check_table tb) wrong (of_vector (λ _. fine) (wron
 
 -- 32, 33 and the heads, by the old count
 unfoldable pub lengths_of : ℕ → Res ℕ → Lengths
-lengths_of k (got c n) = pick (leb (c + k) max_count) (heads (c + k) n (length (compact_bytes (c + k)))) (noHeads append_count)
-lengths_of k (bad y) = noHeads append_head
+lengths_of k (got c n) = pick (leb (c + k) max_count) (heads (c + k) n (length (compact_bytes (c + k)))) (no_heads append_count)
+lengths_of k (bad y) = no_heads append_head
 
 -- 22, where bytes are to stand behind the first `end` of `room`
 unfoldable pub items_behind : ℕ → ℕ → Output → Output
@@ -51,4 +51,4 @@ pub record Joins (tb buf : List ℕ) (used k : ℕ) (cs : List ℕ) (count old n
 -- what is decided
 abbrev pub Plans : List ℕ → List ℕ → ℕ → ℕ → List ℕ → Plan → Type 0
 Plans tb buf used k cs (joining count old new items) = Joins tb buf used k cs count old new items
-Plans tb buf used k cs (noPlan y) = append tb buf used k cs ≡ not y
+Plans tb buf used k cs (no_plan y) = append tb buf used k cs ≡ not y

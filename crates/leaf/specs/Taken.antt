@@ -5,21 +5,21 @@ use Rattle.rules.specs.Cells.{wide}
 use Rattle.rules.specs.Parser.{Res, got, bad}
 use Rattle.rules.specs.declared.Leaf.{Leaf}
 pub use Rattle.leaf.specs.declared.Taken.{Taken}
-pub use Rattle.leaf.specs.declared.Taken.TheVariants.{One as oneCell, Two as twoCells, Refused as noLeaf}
+pub use Rattle.leaf.specs.declared.Taken.TheVariants.{One as one_cell, Two as two_cells, Refused as no_leaf}
 pub use Rattle.leaf.specs.declared.Count.{Count}
-pub use Rattle.leaf.specs.declared.Count.TheVariants.{Of as counts, Refused as noCount}
+pub use Rattle.leaf.specs.declared.Count.TheVariants.{Of as counts, Refused as no_count}
 
 unfoldable pub in_one : Res ℕ → Taken
-in_one (got v n) = oneCell v n
-in_one (bad y) = noLeaf y
+in_one (got v n) = one_cell v n
+in_one (bad y) = no_leaf y
 
 unfoldable pub in_two : Res ℕ → Taken
-in_two (got v n) = twoCells (v % 2 ^ 64) (v / 2 ^ 64) n
-in_two (bad y) = noLeaf y
+in_two (got v n) = two_cells (v % 2 ^ 64) (v / 2 ^ 64) n
+in_two (bad y) = no_leaf y
 
 unfoldable pub taken_of : Leaf → Res ℕ → Taken
 taken_of k r = pick (wide k) (in_two r) (in_one r)
 
 unfoldable pub count_of : Res ℕ → Count
 count_of (got v n) = counts v n
-count_of (bad y) = noCount y
+count_of (bad y) = no_count y

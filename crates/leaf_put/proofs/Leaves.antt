@@ -30,7 +30,7 @@ use Rattle.rules.specs.declared.Width.TheVariants.{W1 as w1, W2 as w2, W4 as w4,
 use Rattle.leaf_put.proofs.Putting.{sets_sat}
 use Rattle.leaf_put.specs.Landed.{Took}
 use Rattle.leaf_put.specs.declared.Taken.{Taken}
-use Rattle.leaf_put.specs.declared.Taken.TheVariants.{One as oneCell, Two as twoCells, Refused as noCells}
+use Rattle.leaf_put.specs.declared.Taken.TheVariants.{One as one_cell, Two as two_cells, Refused as no_cells}
 
 -- ---- the bytes of a value
 
@@ -104,15 +104,15 @@ pub took_leaf : (k j : Leaf) (cs : List ℕ) (r : Taken) → k ≡ j → Took (l
 took_leaf k j cs r e h = subst (λ x. Took (leaf_taken x 0 cs) r) (sym e) h
 
 -- the value that was taken, by how many cells
-pub took_one : (R : Res ℕ) (r : Taken) (v : ℕ) → Took R r → r ≡ oneCell v → R ≡ got (whole v 0) 1
+pub took_one : (R : Res ℕ) (r : Taken) (v : ℕ) → Took R r → r ≡ one_cell v → R ≡ got (whole v 0) 1
 unfolding Took
 took_one R r v h e = let q : R ≡ got v 1 = subst (Took R) e h in q ∙ ap (λ x. got x 1) (omega arith)
 
-pub took_two : (R : Res ℕ) (r : Taken) (a b : ℕ) → Took R r → r ≡ twoCells a b → R ≡ got (whole a b) 2
+pub took_two : (R : Res ℕ) (r : Taken) (a b : ℕ) → Took R r → r ≡ two_cells a b → R ≡ got (whole a b) 2
 unfolding Took
 took_two R r a b h e = subst (Took R) e h
 
-pub took_none : (R : Res ℕ) (r : Taken) (y : Refusal) → Took R r → r ≡ noCells y → R ≡ bad y
+pub took_none : (R : Res ℕ) (r : Taken) (y : Refusal) → Took R r → r ≡ no_cells y → R ≡ bad y
 unfolding Took
 took_none R r y h e = subst (Took R) e h
 

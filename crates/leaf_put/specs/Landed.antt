@@ -4,13 +4,13 @@ use Rattle.std.proofs.lemmas.List.Edits.{sets}
 use Rattle.compact.specs.Halves.{whole}
 use Rattle.rules.specs.Parser.{Res, got, bad}
 use Rattle.leaf_put.specs.declared.Taken.{Taken}
-use Rattle.leaf_put.specs.declared.Taken.TheVariants.{One as oneCell, Two as twoCells, Refused as noCells}
+use Rattle.leaf_put.specs.declared.Taken.TheVariants.{One as one_cell, Two as two_cells, Refused as no_cells}
 
 -- a leaf's value, by the cells that were taken for it
 unfoldable pub Took : Res ℕ → Taken → Type 0
-Took r (oneCell v) = r ≡ got v 1
-Took r (twoCells a b) = r ≡ got (whole a b) 2
-Took r (noCells y) = r ≡ bad y
+Took r (one_cell v) = r ≡ got v 1
+Took r (two_cells a b) = r ≡ got (whole a b) 2
+Took r (no_cells y) = r ≡ bad y
 
 -- the output afterwards: the bytes from `pos` on, as far as there is room, and what it was where the cells are refused
 unfoldable pub landed_of : ℕ → Res (List ℕ) → List ℕ → List ℕ

@@ -10,7 +10,7 @@ use Rattle.rules.proofs.Laws.Table.{type_node}
 use Rattle.rules.specs.Jobs.{of_vector}
 use Rattle.node.specs.declared.Named.{Named}
 use Rattle.node.specs.declared.Named.TheVariants.{Width as named, Nothing as unnamed}
-use Rattle.node.specs.Names.{Width, w1, w2, w4, w8, w16, Leaf, Node, leafNode, optionNode, resultNode, pairNode, arrayNode, vectorNode, bitsNode, unknown}
+use Rattle.node.specs.Names.{Width, w1, w2, w4, w8, w16, Leaf, Node, leaf_node, option_node, result_node, pair_node, array_node, vector_node, bits_node, unknown}
 use Rattle.node.specs.Nodes.{width_named, leaf_named}
 
 -- a leaf with a width, through the width that is named
@@ -18,7 +18,7 @@ pub with_width_lem : (f : Width → Leaf) (a : ℕ) → with_width f a ≡ leaf_
 unfolding width_named
 with_width_lem f a = go (eqb a 1) w1 _ _ (go (eqb a 2) w2 _ _ (go (eqb a 4) w4 _ _ (go (eqb a 8) w8 _ _ (go (eqb a 16) w16 unknown unnamed refl))))
   where
-    go : (b : Bool) (w : Width) (x : Node) (n : Named) → x ≡ leaf_named f n → pick b (leafNode (f w)) x ≡ leaf_named f (pick b (named w) n)
+    go : (b : Bool) (w : Width) (x : Node) (n : Named) → x ≡ leaf_named f n → pick b (leaf_node (f w)) x ≡ leaf_named f (pick b (named w) n)
     go true w x n e = refl
     go false w x n e = e
 
@@ -37,13 +37,13 @@ node_is tb g i h q n e f =
     (type_node tb g i h ∙ ap (build (ty_at tb)) k, subst (Below i) k (g.nodes i h))
 
 -- what the last arm of a match knows that has an arm for vectors: the node is another case of the enum than a vector, which is case 5
-pub no_vector : {A : Type 0} (f : Ty → A) (a : A) (g : ℕ → Ty) (kind : Node → ℕ) → ((i : ℕ) → kind (vectorNode i) ≡ 5)
+pub no_vector : {A : Type 0} (f : Ty → A) (a : A) (g : ℕ → Ty) (kind : Node → ℕ) → ((i : ℕ) → kind (vector_node i) ≡ 5)
     → (q : Node) → OneOf (0 ∷ 1 ∷ 2 ∷ 3 ∷ 4 ∷ 6 ∷ 7 ∷ []) (kind q) → of_vector f a (build g q) ≡ a
-no_vector f a g kind e (leafNode k) h = refl
-no_vector f a g kind e (optionNode i) h = refl
-no_vector f a g kind e (resultNode i j) h = refl
-no_vector f a g kind e (pairNode i j) h = refl
-no_vector f a g kind e (arrayNode n i) h = refl
-no_vector f a g kind e (vectorNode i) h = absurd (miss (0 ∷ 1 ∷ 2 ∷ 3 ∷ 4 ∷ 6 ∷ 7 ∷ []) 5 tt (subst (OneOf (0 ∷ 1 ∷ 2 ∷ 3 ∷ 4 ∷ 6 ∷ 7 ∷ [])) (e i) h))
-no_vector f a g kind e bitsNode h = refl
+no_vector f a g kind e (leaf_node k) h = refl
+no_vector f a g kind e (option_node i) h = refl
+no_vector f a g kind e (result_node i j) h = refl
+no_vector f a g kind e (pair_node i j) h = refl
+no_vector f a g kind e (array_node n i) h = refl
+no_vector f a g kind e (vector_node i) h = absurd (miss (0 ∷ 1 ∷ 2 ∷ 3 ∷ 4 ∷ 6 ∷ 7 ∷ []) 5 tt (subst (OneOf (0 ∷ 1 ∷ 2 ∷ 3 ∷ 4 ∷ 6 ∷ 7 ∷ [])) (e i) h))
+no_vector f a g kind e bits_node h = refl
 no_vector f a g kind e unknown h = refl

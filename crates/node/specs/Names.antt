@@ -4,4 +4,4 @@ pub use Rattle.rules.specs.declared.Width.TheVariants.{W1 as w1, W2 as w2, W4 as
 pub use Rattle.rules.specs.declared.Leaf.{Leaf}
 pub use Rattle.rules.specs.declared.Leaf.TheVariants.{Fixed as fixed, Compact as compact}
 pub use Rattle.rules.specs.declared.Node.{Node}
-pub use Rattle.rules.specs.declared.Node.TheVariants.{Leaf as leafNode, Option as optionNode, Result as resultNode, Pair as pairNode, Array as arrayNode, Vector as vectorNode, Bits as bitsNode, Unknown as unknown}
+pub use Rattle.rules.specs.declared.Node.TheVariants.{Leaf as leaf_node, Option as option_node, Result as result_node, Pair as pair_node, Array as array_node, Vector as vector_node, Bits as bits_node, Unknown as unknown}

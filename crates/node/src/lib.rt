@@ -2,7 +2,7 @@
 #![tactic(auto)]
 
 ghost use Rattle.std.specs.Prelude.{◌≡◌, ◌+◌, ◌*◌};
-ghost use Rattle.rules.specs.Table.{unused as ifUnused, with_width, float_node, node_of, node_in};
+ghost use Rattle.rules.specs.Table.{unused as if_unused, with_width, float_node, node_of, node_in};
 ghost use Rattle.node.specs.Names.{fixed, compact};
 ghost use Rattle.node.specs.Nodes.{width_named};
 
@@ -87,7 +87,7 @@ fn array_of(n: usize, a: usize) -> Node
 
 // The node, if a number that its kind does not use is 0.
 fn unused(number: usize, node: Node) -> Node
-    ensures { result ≡ ifUnused number node }
+    ensures { result ≡ if_unused number node }
 {
     if number == 0 { node } else { Node::Unknown }
 }

@@ -18,16 +18,16 @@ use Rattle.rules.proofs.Laws.Table.{check_good}
 use Rattle.rules.specs.Types.{array}
 use Rattle.rules.specs.declared.Check.TheVariants.{Fine as fine, Refused as wrong}
 use Rattle.rules.specs.declared.Node.{Node}
-use Rattle.rules.specs.declared.Node.TheVariants.{Vector as vectorNode}
+use Rattle.rules.specs.declared.Node.TheVariants.{Vector as vector_node}
 use Rattle.rules.specs.declared.Put.{Put}
-use Rattle.rules.specs.declared.Put.TheVariants.{Done as putDone, Refused as putNot}
+use Rattle.rules.specs.declared.Put.TheVariants.{Done as put_done, Refused as put_not}
 use Rattle.rules.specs.declared.Refusal.{Refusal}
 use Rattle.node.specs.Laws.{node_is, no_vector}
 use Rattle.put.proofs.Putting.{Putting, same_put}
 use Rattle.put.specs.Laws.{in_fine, in_refused, part_in_lem}
 use Rattle.put.specs.Written.{Landed, Puttable, part_put, part_in, part_out}
 use Rattle.put.specs.declared.Part.{Part}
-use Rattle.put.specs.declared.Part.TheVariants.{Root as wholeRoot, Items as rootItems}
+use Rattle.put.specs.declared.Part.TheVariants.{Root as whole_root, Items as root_items}
 
 -- ---- a part of the root
 
@@ -37,26 +37,26 @@ from_start tb cs e u h =
     record { good = g; there = omega (arith, g.some); spare = record { words = u; taking = omega (arith, h); putting = omega (arith, h) } }
 
 module _ (tb cs out m : List ℕ) (r : Put) (part : Part) where
-  pub root_put : part ≡ wholeRoot → Putting 0 0 (put (ty_at tb (count tb - 1)) 0 cs) out r m → Putting 0 0 (part_put part (root tb) cs) out r m
+  pub root_put : part ≡ whole_root → Putting 0 0 (put (ty_at tb (count tb - 1)) 0 cs) out r m → Putting 0 0 (part_put part (root tb) cs) out r m
   unfolding root
   root_put p h = same_put 0 0 (part_put part (root tb) cs) (put (root tb) 0 cs) out m r (ap (λ x. part_put x (root tb) cs) p) h
 
-  module _ (W : Puttable tb (count tb - 1) 0 cs 0) (k : ℕ) (p : part ≡ rootItems k) (q : Node) (g : q ≡ node_in tb (count tb - 1)) where
+  module _ (W : Puttable tb (count tb - 1) 0 cs 0) (k : ℕ) (p : part ≡ root_items k) (q : Node) (g : q ≡ node_in tb (count tb - 1)) where
     items_of : (n : Node) → q ≡ n → part_put part (root tb) cs ≡ of_vector (λ u. put (array k u) 0 cs) (bad append_root) (build (ty_at tb) n)
     unfolding root
     items_of n f = ap₂ (λ x t. part_put x t cs) p (node_is tb W.good (count tb - 1) W.there q n g f).0
 
-    pub items_put : (a : ℕ) → q ≡ vectorNode a → Putting 0 0 (put (array k (ty_at tb a)) 0 cs) out r m → Putting 0 0 (part_put part (root tb) cs) out r m
-    items_put a f h = same_put 0 0 (part_put part (root tb) cs) (put (array k (ty_at tb a)) 0 cs) out m r (items_of (vectorNode a) f) h
+    pub items_put : (a : ℕ) → q ≡ vector_node a → Putting 0 0 (put (array k (ty_at tb a)) 0 cs) out r m → Putting 0 0 (part_put part (root tb) cs) out r m
+    items_put a f h = same_put 0 0 (part_put part (root tb) cs) (put (array k (ty_at tb a)) 0 cs) out m r (items_of (vector_node a) f) h
 
-    pub no_items : (kind : Node → ℕ) → ((i : ℕ) → kind (vectorNode i) ≡ 5) → OneOf (0 ∷ 1 ∷ 2 ∷ 3 ∷ 4 ∷ 6 ∷ 7 ∷ []) (kind q) → (y : Refusal) → y ≡ append_root → r ≡ putNot y → Putting 0 0 (part_put part (root tb) cs) out r m
+    pub no_items : (kind : Node → ℕ) → ((i : ℕ) → kind (vector_node i) ≡ 5) → OneOf (0 ∷ 1 ∷ 2 ∷ 3 ∷ 4 ∷ 6 ∷ 7 ∷ []) (kind q) → (y : Refusal) → y ≡ append_root → r ≡ put_not y → Putting 0 0 (part_put part (root tb) cs) out r m
     unfolding put_of
     no_items kind v o y e f =
-        same_put 0 0 (part_put part (root tb) cs) (bad append_root) out m r (items_of q refl ∙ no_vector (λ u. put (array k u) 0 cs) (bad append_root) (ty_at tb) kind v q o) (f ∙ ap putNot e, tt)
+        same_put 0 0 (part_put part (root tb) cs) (bad append_root) out m r (items_of q refl ∙ no_vector (λ u. put (array k u) 0 cs) (bad append_root) (ty_at tb) kind v q o) (f ∙ ap put_not e, tt)
 
 -- ---- what is put, where all is decided
 
-put_got : (P : Res (List ℕ)) (n used : ℕ) → put_of 0 0 P ≡ putDone n used → (l : List ℕ) × (P ≡ got l n) × (length l ≡ used)
+put_got : (P : Res (List ℕ)) (n used : ℕ) → put_of 0 0 P ≡ put_done n used → (l : List ℕ) × (P ≡ got l n) × (length l ≡ used)
 unfolding put_of
 put_got (got l k) n used e =
     let a : 0 + k ≡ n = cc in
@@ -65,7 +65,7 @@ put_got (got l k) n used e =
     (l, ap (got l) c, omega (arith, b))
 put_got (bad y) n used e = absurd (let z : ◌≡◌ {A = ℕ} 0 1 = cc in omega arith)
 
-put_bad : (P : Res (List ℕ)) (y : Refusal) → put_of 0 0 P ≡ putNot y → P ≡ bad y
+put_bad : (P : Res (List ℕ)) (y : Refusal) → put_of 0 0 P ≡ put_not y → P ≡ bad y
 unfolding put_of
 put_bad (got l k) y e = absurd (let z : ◌≡◌ {A = ℕ} 0 1 = cc in omega arith)
 put_bad (bad x) y e = let a : x ≡ y = cc in ap bad a
@@ -81,23 +81,23 @@ module _ (part : Part) (tb cs out : List ℕ) where
   afterwards : (Q : Res (List ℕ)) → part_in part tb cs ≡ Q → output_after (part_out part tb cs (length out)) out ≡ output_after (put_out (length cs) (length out) (λ l. l) Q) out
   afterwards Q q = ap (λ o. output_after o out) (part_in_lem part tb cs (length out) ∙ ap (put_out (length cs) (length out) (λ l. l)) q)
 
-  stays : (y : Refusal) → part_in part tb cs ≡ bad y → Settles part tb cs out (putNot y) out
+  stays : (y : Refusal) → part_in part tb cs ≡ bad y → Settles part tb cs out (put_not y) out
   unfolding put_out put_of
   stays y e = (sym (ap (put_of 0 0) e), sym (afterwards (bad y) e))
 
-  pub put_refused : (y : Refusal) → check_table tb ≡ wrong y → Settles part tb cs out (putNot y) out
+  pub put_refused : (y : Refusal) → check_table tb ≡ wrong y → Settles part tb cs out (put_not y) out
   put_refused y e = stays y (in_refused part tb cs y e)
 
   module _ (r : Put) (f : r ≡ put_of 0 0 (part_in part tb cs)) where
-    pub put_stops : (y : Refusal) → r ≡ putNot y → Settles part tb cs out (putNot y) out
+    pub put_stops : (y : Refusal) → r ≡ put_not y → Settles part tb cs out (put_not y) out
     put_stops y g = stays y (put_bad (part_in part tb cs) y (sym f ∙ g))
 
-    module _ (n used : ℕ) (g : r ≡ putDone n used) where
+    module _ (n used : ℕ) (g : r ≡ put_done n used) where
       G : (l : List ℕ) × (part_in part tb cs ≡ got l n) × (length l ≡ used)
       G = put_got (part_in part tb cs) n used (sym f ∙ g)
 
       -- cells are left
-      pub put_left : n < length cs → Settles part tb cs out (putDone n used) out
+      pub put_left : n < length cs → Settles part tb cs out (put_done n used) out
       unfolding put_out
       put_left h = (
         sym g ∙ f,
@@ -110,13 +110,13 @@ module _ (part : Part) (tb cs out : List ℕ) where
         fitting = afterwards (got G.0 n) G.1 ∙ ap (λ b. output_after (pick b (not (cells_left_at n)) (fitted (length out) G.0)) out) (le-ltb n (length cs) all)
 
         -- there is too little room
-        pub put_small : length out < used → Settles part tb cs out (putDone n used) out
+        pub put_small : length out < used → Settles part tb cs out (put_done n used) out
         put_small h = (
           sym g ∙ f,
           sym (fitting ∙ ap (λ b. output_after (pick b (not output_small) (wrote G.0)) out) (lt-ltb (length out) (length G.0) (omega (arith, G.2)))),
         )
 
-        pub put_whole : check_table tb ≡ fine → (m : List ℕ) → used ≤ length out → Landed 0 (part_put part (root tb) cs) out m → Settles part tb cs out (putDone n used) m
+        pub put_whole : check_table tb ≡ fine → (m : List ℕ) → used ≤ length out → Landed 0 (part_put part (root tb) cs) out m → Settles part tb cs out (put_done n used) m
         put_whole e m h w =
             let room : length G.0 ≤ length out = omega (arith, G.2) in
             let there : m ≡ sets out 0 G.0 = subst (λ (Q : Res (List ℕ)). Landed 0 Q out m) (sym (in_fine part tb cs e) ∙ G.1) w in (

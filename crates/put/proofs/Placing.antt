@@ -12,7 +12,7 @@ use Rattle.rules.specs.Put.Relative.{shifted, Within, Relative}
 use Rattle.rules.specs.Refusals.{because}
 use Rattle.rules.specs.Types.{Ty}
 use Rattle.rules.specs.declared.Put.{Put}
-use Rattle.rules.specs.declared.Put.TheVariants.{Done as putDone, Refused as putNot}
+use Rattle.rules.specs.declared.Put.TheVariants.{Done as put_done, Refused as put_not}
 use Rattle.rules.specs.declared.Refusal.{Refusal}
 use Rattle.put.proofs.Putting.{Putting}
 use Rattle.put.specs.Written.{Placeable, placed_of, Spare}
@@ -23,13 +23,13 @@ module _ (at pos : ℕ) {a : Put} where
   pub place_fits : (b : Put) → a ≡ b → Placeable at pos a → Placeable at pos b
   place_fits b e h = subst (Placeable at pos) e h
 
-  pub placed_done : {n used : ℕ} → a ≡ putDone n used → putDone (at + n) (pos + used) ≡ placed_of at pos a
+  pub placed_done : {n used : ℕ} → a ≡ put_done n used → put_done (at + n) (pos + used) ≡ placed_of at pos a
   unfolding placed_of
   placed_done e = ap (placed_of at pos) (sym e)
 
-  pub placed_not : {y x : Refusal} → a ≡ putNot y → x ≡ because y.number (at + y.place) → putNot x ≡ placed_of at pos a
+  pub placed_not : {y x : Refusal} → a ≡ put_not y → x ≡ because y.number (at + y.place) → put_not x ≡ placed_of at pos a
   unfolding placed_of
-  placed_not e f = ap putNot f ∙ ap (placed_of at pos) (sym e)
+  placed_not e f = ap put_not f ∙ ap (placed_of at pos) (sym e)
 
 -- ---- a value of type t that p puts
 
@@ -50,5 +50,5 @@ module _ (p : Parser (List ℕ)) (rel : Relative p) (at pos : ℕ) (cs : List �
       go (got l n) g f =
           let i : at + (0 + n) ≡ at + n = omega arith in
           let j : pos + (0 + length l) ≡ pos + length l = omega arith in
-          (f ∙ ap₂ putDone i j, g)
+          (f ∙ ap₂ put_done i j, g)
       go (bad y) g f = (f, tt)

@@ -12,7 +12,7 @@ use Rattle.rules.specs.Types.{Ty, leaf, nothing, result, pair, array, vector, bi
 use Rattle.rules.specs.declared.Check.{Check}
 use Rattle.rules.specs.declared.Check.TheVariants.{Fine as fine, Refused as wrong}
 use Rattle.rules.specs.declared.Refusal.{Refusal}
-use Rattle.put.specs.Written.{Part, wholeRoot, rootItems, part_put, part_in, part_out}
+use Rattle.put.specs.Written.{Part, whole_root, root_items, part_put, part_in, part_out}
 
 pub in_fine : (part : Part) (tb cs : List ℕ) → check_table tb ≡ fine → part_in part tb cs ≡ part_put part (root tb) cs
 unfolding part_in
@@ -25,8 +25,8 @@ in_refused part tb cs y e = ap (λ x. after_check x bad (part_put part (root tb)
 -- a part of a checked table's root
 part_out_lem : (part : Part) (tb cs : List ℕ) (room : ℕ) → check_table tb ≡ fine → part_out part tb cs room ≡ put_out (length cs) room (λ l. l) (part_put part (root tb) cs)
 unfolding write_cells write_items
-part_out_lem wholeRoot tb cs room e = ap (λ x. after_check x not (output (root tb) cs room)) e ∙ output_put (root tb) cs room
-part_out_lem (rootItems k) tb cs room e = ap (λ x. after_check x not (of_vector (λ t. output (array k t) cs room) (not append_root) (root tb))) e ∙ go (root tb)
+part_out_lem whole_root tb cs room e = ap (λ x. after_check x not (output (root tb) cs room)) e ∙ output_put (root tb) cs room
+part_out_lem (root_items k) tb cs room e = ap (λ x. after_check x not (of_vector (λ t. output (array k t) cs room) (not append_root) (root tb))) e ∙ go (root tb)
   where
     go : (t : Ty) → of_vector (λ u. output (array k u) cs room) (not append_root) t ≡ put_out (length cs) room (λ l. l) (of_vector (λ u. put (array k u) 0 cs) (bad append_root) t)
     go (vector t) = output_put (array k t) cs room
@@ -39,8 +39,8 @@ part_out_lem (rootItems k) tb cs room e = ap (λ x. after_check x not (of_vector
 
 part_refused : (part : Part) (tb cs : List ℕ) (room : ℕ) (y : Refusal) → check_table tb ≡ wrong y → part_out part tb cs room ≡ not y
 unfolding write_cells write_items
-part_refused wholeRoot tb cs room y e = ap (λ x. after_check x not (output (root tb) cs room)) e
-part_refused (rootItems k) tb cs room y e = ap (λ x. after_check x not (of_vector (λ t. output (array k t) cs room) (not append_root) (root tb))) e
+part_refused whole_root tb cs room y e = ap (λ x. after_check x not (output (root tb) cs room)) e
+part_refused (root_items k) tb cs room y e = ap (λ x. after_check x not (of_vector (λ t. output (array k t) cs room) (not append_root) (root tb))) e
 
 -- what is written is what is put, where all cells are taken and there is room
 pub part_in_lem : (part : Part) (tb cs : List ℕ) (room : ℕ) → part_out part tb cs room ≡ put_out (length cs) room (λ l. l) (part_in part tb cs)

@@ -10,9 +10,9 @@ use Rattle.rules.specs.Table.{count, root, check_table, after_check}
 use Rattle.rules.specs.Table.Laws.{Good}
 use Rattle.rules.specs.Types.{Ty, array}
 use Rattle.rules.specs.declared.Put.{Put}
-use Rattle.rules.specs.declared.Put.TheVariants.{Done as putDone, Refused as putNot}
+use Rattle.rules.specs.declared.Put.TheVariants.{Done as put_done, Refused as put_not}
 pub use Rattle.put.specs.declared.Part.{Part}
-pub use Rattle.put.specs.declared.Part.TheVariants.{Root as wholeRoot, Items as rootItems}
+pub use Rattle.put.specs.declared.Part.TheVariants.{Root as whole_root, Items as root_items}
 
 -- the output afterwards: the bytes from `pos` on, as far as there is room; nothing is said where the cells are refused, which is decided with no output
 abbrev pub Landed : ℕ → Res (List ℕ) → List ℕ → List ℕ → Type 0
@@ -21,12 +21,12 @@ Landed pos (bad y) out later = Prim.Unit {0}
 
 -- an answer that counts from a value's own first cell and byte, where these are at `at` and `pos`; and that its numbers fit there
 unfoldable pub placed_of : ℕ → ℕ → Put → Put
-placed_of at pos (putDone n used) = putDone (at + n) (pos + used)
-placed_of at pos (putNot y) = putNot (because y.number (at + y.place))
+placed_of at pos (put_done n used) = put_done (at + n) (pos + used)
+placed_of at pos (put_not y) = put_not (because y.number (at + y.place))
 
 abbrev pub Placeable : ℕ → ℕ → Put → Type 0
-Placeable at pos (putDone n used) = (at + n < 2 ^ 64) × (pos + used < 2 ^ 64)
-Placeable at pos (putNot y) = at + y.place < 2 ^ 64
+Placeable at pos (put_done n used) = (at + n < 2 ^ 64) × (pos + used < 2 ^ 64)
+Placeable at pos (put_not y) = at + y.place < 2 ^ 64
 
 -- 64-bit cells, with indices of cells and bytes that fit: each cell gives at most nine bytes
 pub record Spare (at : ℕ) (cs : List ℕ) (pos : ℕ) : Type 0 where
@@ -44,8 +44,8 @@ pub record Puttable (tb : List ℕ) (node at : ℕ) (cs : List ℕ) (pos : ℕ) 
 
 -- the bytes of a part, for a root t
 abbrev pub part_put : Part → Ty → List ℕ → Res (List ℕ)
-part_put wholeRoot t cs = put t 0 cs
-part_put (rootItems k) t cs = of_vector (λ u. put (array k u) 0 cs) (bad append_root) t
+part_put whole_root t cs = put t 0 cs
+part_put (root_items k) t cs = of_vector (λ u. put (array k u) 0 cs) (bad append_root) t
 
 -- by a table, which is checked first
 unfoldable pub part_in : Part → List ℕ → List ℕ → Res (List ℕ)
@@ -53,5 +53,5 @@ part_in part tb cs = after_check (check_table tb) bad (part_put part (root tb) c
 
 -- writing it
 abbrev pub part_out : Part → List ℕ → List ℕ → ℕ → Output
-part_out wholeRoot tb cs room = write_cells tb cs room
-part_out (rootItems k) tb cs room = write_items tb k cs room
+part_out whole_root tb cs room = write_cells tb cs room
+part_out (root_items k) tb cs room = write_items tb k cs room

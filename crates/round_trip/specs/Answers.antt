@@ -20,7 +20,7 @@ use Rattle.rules.specs.declared.Scan.{Scan}
 use Rattle.rules.specs.declared.Scan.TheVariants.{Done as done}
 use Rattle.rules.specs.declared.Totals.{Totals}
 use Rattle.rules.specs.declared.Written.{Written}
-use Rattle.rules.specs.declared.Written.TheVariants.{Bytes as wroteBytes}
+use Rattle.rules.specs.declared.Written.TheVariants.{Bytes as wrote_bytes}
 use Rattle.decode.specs.Answers as reader
 use Rattle.encode.specs.Answers as writer
 
@@ -31,7 +31,7 @@ counted x l = take-append-le (length x) x (drop (length x) l) (le_refl (length x
 -- writing the counted cells of an accepted reading gives the bytes that were read, but for the bits that don't count
 pub writes_read : (tb s : List ℕ) (lim : Limits) (l : List ℕ) (r : Scan) (m : List ℕ) (u : Totals) (n : ℕ) (out : List ℕ) (w : Written) (o : List ℕ) → lim.memory < 2 ^ 64 → Under 256 s
     → reader.Contract read_front tb s lim l r m → r ≡ done u n → writer.Contract (write_cells tb (take u.cells m) (length out)) out w o → n ≤ length out
-    → (v : Val (root tb)) × Back (root tb) s v n × (w ≡ wroteBytes n) × (o ≡ onto (encode (root tb) v) out)
+    → (v : Val (root tb)) × Back (root tb) s v n × (w ≡ wrote_bytes n) × (o ≡ onto (encode (root tb) v) out)
 writes_read tb s lim l r m u n out w o memory b c e d h =
     let a = reader.read_accepted tb s lim l r m memory c u n e in
     let v = a.1.0 in
@@ -43,7 +43,7 @@ writes_read tb s lim l r m u n out w o memory b c e d h =
 
 -- and reading what was written gives the same cells, under limits that admit the value
 pub reads_written : (tb cs out : List ℕ) (w : Written) (o : List ℕ) (n : ℕ) (lim : Limits) (l : List ℕ) (r : Scan) (m : List ℕ) → lim.memory < 2 ^ 64 → Under (2 ^ 64) cs
-    → writer.Contract (write_cells tb cs (length out)) out w o → w ≡ wroteBytes n → reader.Contract read_front tb o lim l r m
+    → writer.Contract (write_cells tb cs (length out)) out w o → w ≡ wrote_bytes n → reader.Contract read_front tb o lim l r m
     → (v : Val (root tb)) × Wrote (root tb) cs (length out) (encode (root tb) v) v
     × (nesting (root tb) v ≤ lim.depth → length cs ≤ lim.cells → length cs ≤ length l → (vectors (root tb) v ≡ 0) ⊎ (charge (root tb) v < lim.memory)
     → (r ≡ done (answer (root tb) v) n) × (m ≡ onto cs l))

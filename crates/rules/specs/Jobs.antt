@@ -10,9 +10,9 @@ use Rattle.rules.specs.Cells.{unpack}
 use Rattle.rules.specs.Scan.{Limits, Scan, done, stopped, scan, scan_all}
 use Rattle.rules.specs.Table.{Check, fine, wrong, root, check_table, after_check}
 use Rattle.rules.specs.declared.Longest.{Longest}
-use Rattle.rules.specs.declared.Longest.TheVariants.{Bytes as at_most, Unbounded as unbounded, Refused as noLongest}
+use Rattle.rules.specs.declared.Longest.TheVariants.{Bytes as at_most, Unbounded as unbounded, Refused as no_longest}
 pub use Rattle.rules.specs.declared.Written.{Written}
-pub use Rattle.rules.specs.declared.Written.TheVariants.{Bytes as wroteBytes, Refused as notWritten}
+pub use Rattle.rules.specs.declared.Written.TheVariants.{Bytes as wrote_bytes, Refused as not_written}
 
 -- ---- reading: at the front of a message, or the whole of it. A job that lends no cells takes C as given.
 
@@ -70,8 +70,8 @@ write_items tb k cs room = after_check (check_table tb) not (of_vector (λ t. ou
 
 -- the answer, and the output afterwards: bytes past the written length stay, and a refusal leaves all
 abbrev pub written_of : Output → Written
-written_of (wrote l) = wroteBytes (length l)
-written_of (not y) = notWritten y
+written_of (wrote l) = wrote_bytes (length l)
+written_of (not y) = not_written y
 
 abbrev pub output_after : Output → List ℕ → List ℕ
 output_after (wrote l) out = onto l out
@@ -122,8 +122,8 @@ read_fields (stopped y) = refused_fields y
 
 -- writing and append answer number, place and bytes
 abbrev pub written_fields : Written → Fields
-written_fields (wroteBytes n) = record { number = 0; place = 0; bytes = n; cells = 0; charge = 0; depth = 0 }
-written_fields (notWritten y) = refused_fields y
+written_fields (wrote_bytes n) = record { number = 0; place = 0; bytes = n; cells = 0; charge = 0; depth = 0 }
+written_fields (not_written y) = refused_fields y
 
 -- the check answers number and place
 abbrev pub check_fields : Check → Fields
@@ -140,4 +140,4 @@ pub record Length : Type 0 where
 abbrev pub longest_fields : Longest → Length
 longest_fields (at_most n) = record { number = 0; place = 0; has = 1; bytes = n }
 longest_fields unbounded = record { number = 0; place = 0; has = 0; bytes = 0 }
-longest_fields (noLongest y) = record { number = y.number; place = y.place; has = 0; bytes = 0 }
+longest_fields (no_longest y) = record { number = y.number; place = y.place; has = 0; bytes = 0 }

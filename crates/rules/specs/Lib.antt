@@ -2,7 +2,8 @@
 --   To believe, in this order: Refusals, Basics, Types, Bytes, Compact, Bits, Parser, Form (writing and reading once for bytes and cells), Wire (bytes), Cells,
 --     Totals (footprint, longest length, nesting, charge), Trace and Scan (the limited reader), Table (nodes, the type that a table denotes, its checks), Jobs.
 --   The contracts of the layers speak of parts of these: `Scan.Pass` and `Scan.Units` (what one item, a head or units pass and leave), `Put` (the bytes that cells say).
---   The laws stand in the modules below these, named after what they say; RoundTrip, Demands, Append and Bench stand by themselves. docs/PROMISES.md lists them.
+--   The laws stand in proofs/Laws, in modules of the same names; what a module of laws alone defines for its statements stands here, in modules named after what they say.
+--   docs/PROMISES.md lists the laws.
 pub mod Refusals
 pub mod Basics
 pub mod Types

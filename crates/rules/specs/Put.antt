@@ -6,7 +6,7 @@ use Rattle.rules.specs.Parser.{Res, got, bad, Parser, next, map_res}
 use Rattle.rules.specs.Wire.{leaf_bytes, encode}
 use Rattle.rules.specs.Cells.{leaf_taken, unpack}
 use Rattle.rules.specs.declared.Put.{Put}
-use Rattle.rules.specs.declared.Put.TheVariants.{Done as putDone, Refused as putNot}
+use Rattle.rules.specs.declared.Put.TheVariants.{Done as put_done, Refused as put_not}
 
 -- the bytes, in place of the value
 unfoldable pub put : Ty → Parser (List ℕ)
@@ -14,8 +14,8 @@ put t at cs = map_res (encode t) (unpack t at cs)
 
 -- how far writing got, with the first cell at index `at` and the first byte at `pos`
 unfoldable pub put_of : ℕ → ℕ → Res (List ℕ) → Put
-put_of at pos (got l n) = putDone (at + n) (pos + length l)
-put_of at pos (bad y) = putNot y
+put_of at pos (got l n) = put_done (at + n) (pos + length l)
+put_of at pos (bad y) = put_not y
 
 -- what f gives of the first, and then the bytes of what follows it
 abbrev pub ahead : {A : Type 0} → (A → List ℕ) → (A → ℕ → Res (List ℕ)) → Res A → Res (List ℕ)

@@ -7,12 +7,12 @@ use Rattle.rules.specs.Basics.{pick}
 use Rattle.rules.specs.Types.{Width, w1, w2, w4, w8, w16, Leaf, unit, bool, opt_bool, fixed, compact, float, Ty, leaf, nothing, result, pair, array, vector, bits, option}
 use Rattle.rules.specs.Totals.{foot, longest, unit_cells}
 pub use Rattle.rules.specs.declared.Node.{Node}
-pub use Rattle.rules.specs.declared.Node.TheVariants.{Leaf as leafNode, Option as optionNode, Result as resultNode, Pair as pairNode, Array as arrayNode, Vector as vectorNode, Bits as bitsNode, Unknown as unknown}
+pub use Rattle.rules.specs.declared.Node.TheVariants.{Leaf as leaf_node, Option as option_node, Result as result_node, Pair as pair_node, Array as array_node, Vector as vector_node, Bits as bits_node, Unknown as unknown}
 pub use Rattle.rules.specs.declared.Check.{Check}
 pub use Rattle.rules.specs.declared.Check.TheVariants.{Fine as fine, Refused as wrong}
 pub use Rattle.rules.specs.declared.Footprints.{Footprints}
 pub use Rattle.rules.specs.declared.Longest.{Longest}
-pub use Rattle.rules.specs.declared.Longest.TheVariants.{Bytes as at_most, Unbounded as unbounded, Refused as noLongest}
+pub use Rattle.rules.specs.declared.Longest.TheVariants.{Bytes as at_most, Unbounded as unbounded, Refused as no_longest}
 
 -- ---- a node's four bytes
 
@@ -35,30 +35,30 @@ unused x n = pick (eqb x 0) n unknown
 -- a width that is allowed
 abbrev pub with_width : (Width → Leaf) → ℕ → Node
 with_width f a =
-    pick (eqb a 1) (leafNode (f w1))
-    (pick (eqb a 2) (leafNode (f w2))
-    (pick (eqb a 4) (leafNode (f w4))
-    (pick (eqb a 8) (leafNode (f w8))
-    (pick (eqb a 16) (leafNode (f w16)) unknown))))
+    pick (eqb a 1) (leaf_node (f w1))
+    (pick (eqb a 2) (leaf_node (f w2))
+    (pick (eqb a 4) (leaf_node (f w4))
+    (pick (eqb a 8) (leaf_node (f w8))
+    (pick (eqb a 16) (leaf_node (f w16)) unknown))))
 
 abbrev pub float_node : ℕ → Node
-float_node a = pick (eqb a 4) (leafNode (float w4)) (pick (eqb a 8) (leafNode (float w8)) unknown)
+float_node a = pick (eqb a 4) (leaf_node (float w4)) (pick (eqb a 8) (leaf_node (float w8)) unknown)
 
 -- what a kind with its a and b says, `unknown` where refusal 3 is due for the kind, a width, a count of items or an unused number
 unfoldable pub node_of : ℕ → ℕ → ℕ → Node
 node_of k a b =
-    pick (eqb k 0) (unused a (unused b (leafNode unit)))
-    (pick (eqb k 1) (unused a (unused b (leafNode bool)))
-    (pick (eqb k 2) (unused a (unused b (leafNode opt_bool)))
+    pick (eqb k 0) (unused a (unused b (leaf_node unit)))
+    (pick (eqb k 1) (unused a (unused b (leaf_node bool)))
+    (pick (eqb k 2) (unused a (unused b (leaf_node opt_bool)))
     (pick (eqb k 3) (unused b (with_width fixed a))
     (pick (eqb k 4) (unused b (with_width compact a))
     (pick (eqb k 5) (unused b (float_node a))
-    (pick (eqb k 6) (unused b (optionNode a))
-    (pick (eqb k 7) (resultNode a b)
-    (pick (eqb k 8) (pairNode a b)
-    (pick (eqb k 9) (pick (eqb b 0) unknown (arrayNode b a))
-    (pick (eqb k 10) (unused b (vectorNode a))
-    (pick (eqb k 11) (unused a (unused b bitsNode)) unknown)))))))))))
+    (pick (eqb k 6) (unused b (option_node a))
+    (pick (eqb k 7) (result_node a b)
+    (pick (eqb k 8) (pair_node a b)
+    (pick (eqb k 9) (pick (eqb b 0) unknown (array_node b a))
+    (pick (eqb k 10) (unused b (vector_node a))
+    (pick (eqb k 11) (unused a (unused b bits_node)) unknown)))))))))))
 
 unfoldable pub node_at : List ℕ → ℕ → Node
 node_at tb i = node_of (kind_at tb i) (a_at tb i) (b_at tb i)
@@ -70,13 +70,13 @@ node_in tb i = pick (leb (6 + 4 * i + 4) (length tb)) (node_at tb i) unknown
 -- ---- the type of a node, over its children's
 
 abbrev pub build : (ℕ → Ty) → Node → Ty
-build f (leafNode k) = leaf k
-build f (optionNode a) = option (f a)
-build f (resultNode a b) = result (f a) (f b)
-build f (pairNode a b) = pair (f a) (f b)
-build f (arrayNode n a) = array n (f a)
-build f (vectorNode a) = vector (f a)
-build f bitsNode = bits
+build f (leaf_node k) = leaf k
+build f (option_node a) = option (f a)
+build f (result_node a b) = result (f a) (f b)
+build f (pair_node a b) = pair (f a) (f b)
+build f (array_node n a) = array n (f a)
+build f (vector_node a) = vector (f a)
+build f bits_node = bits
 build f unknown = nothing
 
 -- the fuel is more than a node's index can be: 64
@@ -103,13 +103,13 @@ sized tb = leb 1 (count tb) && (leb (count tb) 64 && eqb (length tb) (6 + 4 * co
 
 -- a known kind whose children are below i
 unfoldable pub allowed : ℕ → Node → Bool
-allowed i (leafNode k) = true
-allowed i (optionNode a) = ltb a i
-allowed i (resultNode a b) = ltb a i && ltb b i
-allowed i (pairNode a b) = ltb a i && ltb b i
-allowed i (arrayNode n a) = ltb a i
-allowed i (vectorNode a) = ltb a i
-allowed i bitsNode = true
+allowed i (leaf_node k) = true
+allowed i (option_node a) = ltb a i
+allowed i (result_node a b) = ltb a i && ltb b i
+allowed i (pair_node a b) = ltb a i && ltb b i
+allowed i (array_node n a) = ltb a i
+allowed i (vector_node a) = ltb a i
+allowed i bits_node = true
 allowed i unknown = false
 
 -- n nodes from i on, rising, 3 before 4
@@ -159,4 +159,4 @@ as_longest (some n) = at_most n
 as_longest none = unbounded
 
 unfoldable pub longest_of : List ℕ → Longest
-longest_of tb = after_check (check_table tb) noLongest (as_longest (longest (root tb)))
+longest_of tb = after_check (check_table tb) no_longest (as_longest (longest (root tb)))

@@ -1,5 +1,5 @@
 // The words that the definitions in specs/ and the code of every crate above share: the widths, leaves and nodes of a type table, the limits, the answers and
-// the refusal numbers. There is no function here: the theory of the format stands in specs/, and a contract's right side is a definition from there.
+// the refusal numbers. There is no function here: the theory of the format stands in specs/, its laws in proofs/, and a contract's right side is a definition from there.
 #![tactic(auto)]
 
 // A width of a number, in bytes.

@@ -17,22 +17,22 @@ use Rattle.rules.specs.declared.Totals.{Totals}
 use Rattle.leaf.specs.Laws.{took}
 use Rattle.leaf.specs.Taken.{taken_of}
 use Rattle.leaf.specs.declared.Taken.{Taken}
-use Rattle.leaf.specs.declared.Taken.TheVariants.{One as oneCell, Two as twoCells, Refused as noLeaf}
+use Rattle.leaf.specs.declared.Taken.TheVariants.{One as one_cell, Two as two_cells, Refused as no_leaf}
 
 module _ (k : Leaf) (lim : Limits) (at : ℕ) (s : List ℕ) (st : Totals) (t : Taken) (e : t ≡ taken_of k (leaf_from k at s)) where
-  pub leaf_one : (v n : ℕ) → t ≡ oneCell v n → (n ≤ length s) × (leaf_pass k lim at s st ≡ plain_pass lim st at (v ∷ []) (at + n))
+  pub leaf_one : (v n : ℕ) → t ≡ one_cell v n → (n ≤ length s) × (leaf_pass k lim at s st ≡ plain_pass lim st at (v ∷ []) (at + n))
   unfolding leaf_pass headed plain_pass leaf_cells
   leaf_one v n f =
-      let r = took k at s t (oneCell v n) e f in (
+      let r = took k at s t (one_cell v n) e f in (
         leaf_used k at s v n r.1,
         ap (λ x. headed lim st at x (λ v. plain at (leaf_cells k v)) (λ v e u. pass_none (done u e))) r.1
             ∙ ap (λ b. passing lim st (plain at (pick b (v % 2 ^ 64 ∷ v / 2 ^ 64 ∷ []) (v ∷ []))) (λ u. pass_none (done u (at + n)))) r.0,
       )
 
-  pub leaf_two : (low high n : ℕ) → t ≡ twoCells low high n → (n ≤ length s) × (leaf_pass k lim at s st ≡ plain_pass lim st at (low ∷ high ∷ []) (at + n))
+  pub leaf_two : (low high n : ℕ) → t ≡ two_cells low high n → (n ≤ length s) × (leaf_pass k lim at s st ≡ plain_pass lim st at (low ∷ high ∷ []) (at + n))
   unfolding leaf_pass headed plain_pass leaf_cells
   leaf_two low high n f =
-      let r = took k at s t (twoCells low high n) e f in
+      let r = took k at s t (two_cells low high n) e f in
       let v = r.0 in (
         leaf_used k at s v n r.2,
         ap (λ x. headed lim st at x (λ v. plain at (leaf_cells k v)) (λ v e u. pass_none (done u e))) r.2
@@ -40,6 +40,6 @@ module _ (k : Leaf) (lim : Limits) (at : ℕ) (s : List ℕ) (st : Totals) (t : 
             ∙ ap₂ (λ (x y : ℕ). passing lim st (plain at (x ∷ y ∷ [])) (λ u. pass_none (done u (at + n)))) (sym r.3) (sym r.4),
       )
 
-  pub leaf_none : (y : Refusal) → t ≡ noLeaf y → leaf_pass k lim at s st ≡ pass_none (stopped y)
+  pub leaf_none : (y : Refusal) → t ≡ no_leaf y → leaf_pass k lim at s st ≡ pass_none (stopped y)
   unfolding leaf_pass headed
-  leaf_none y f = ap (λ x. headed lim st at x (λ v. plain at (leaf_cells k v)) (λ v e u. pass_none (done u e))) (took k at s t (noLeaf y) e f)
+  leaf_none y f = ap (λ x. headed lim st at x (λ v. plain at (leaf_cells k v)) (λ v e u. pass_none (done u e))) (took k at s t (no_leaf y) e f)

@@ -7,7 +7,7 @@ use Rattle.rules.specs.Types.{Ty}
 use Rattle.rules.specs.Totals.{foot}
 use Rattle.rules.specs.Table.{kind_at, a_at, b_at, unused, with_width, node_of, node_at, node_in, build}
 use Rattle.rules.specs.Table.Laws.{Below}
-use Rattle.node.specs.Names.{Width, Leaf, fixed, compact, Node, leafNode, optionNode, resultNode, pairNode, arrayNode, vectorNode, bitsNode, unknown}
+use Rattle.node.specs.Names.{Width, Leaf, fixed, compact, Node, leaf_node, option_node, result_node, pair_node, array_node, vector_node, bits_node, unknown}
 use Rattle.table.specs.Nodes.{Counted, foot_over}
 
 -- ---- how many items it has
@@ -40,7 +40,7 @@ module _ (m : ℕ) where
       wide : (f : Width → Leaf) → Counted m (with_width f a)
       wide f = either (eqb a 1) _ _ tt (either (eqb a 2) _ _ tt (either (eqb a 4) _ _ tt (either (eqb a 8) _ _ tt (either (eqb a 16) _ _ tt tt))))
 
-      some : (t : Bool) → eqb b 0 ≡ t → Counted m (pick t unknown (arrayNode b a))
+      some : (t : Bool) → eqb b 0 ≡ t → Counted m (pick t unknown (array_node b a))
       some true e = tt
       some false e = let z : b ≡ 0 → ⊥ = eqb-false b 0 e in (omega arith, h)
 
@@ -61,11 +61,11 @@ product_fits {n} {x} h g = lt_of_le_of_lt (mul-le-mul_left n (le_of_lt g)) (omeg
 
 pub foot_over_lem : (f : ℕ → ℕ) (g : ℕ → Ty) (i : ℕ) (n : Node) → Below i n → ((j : ℕ) → j < i → f j ≡ foot (g j)) → foot_over f n ≡ foot (build g n)
 unfolding foot_over foot
-foot_over_lem f g i (leafNode k) b h = refl
-foot_over_lem f g i (optionNode a) b h = omega (arith, h a b)
-foot_over_lem f g i (resultNode a c) b h = rw (h a b.0, h c b.1)
-foot_over_lem f g i (pairNode a c) b h = rw (h a b.0, h c b.1)
-foot_over_lem f g i (arrayNode n a) b h = rw (h a b)
-foot_over_lem f g i (vectorNode a) b h = refl
-foot_over_lem f g i bitsNode b h = refl
+foot_over_lem f g i (leaf_node k) b h = refl
+foot_over_lem f g i (option_node a) b h = omega (arith, h a b)
+foot_over_lem f g i (result_node a c) b h = rw (h a b.0, h c b.1)
+foot_over_lem f g i (pair_node a c) b h = rw (h a b.0, h c b.1)
+foot_over_lem f g i (array_node n a) b h = rw (h a b)
+foot_over_lem f g i (vector_node a) b h = refl
+foot_over_lem f g i bits_node b h = refl
 foot_over_lem f g i unknown b h = absurd b

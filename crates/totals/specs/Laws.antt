@@ -8,18 +8,18 @@ use Rattle.rules.specs.Totals.{foot, longest}
 use Rattle.rules.proofs.Laws.Totals.Bound.{longest_twice}
 use Rattle.rules.specs.Table.{build}
 use Rattle.rules.specs.Table.Laws.{Below}
-use Rattle.node.specs.Names.{Node, leafNode, optionNode, resultNode, pairNode, arrayNode, vectorNode, bitsNode, unknown}
+use Rattle.node.specs.Names.{Node, leaf_node, option_node, result_node, pair_node, array_node, vector_node, bits_node, unknown}
 use Rattle.totals.specs.Nodes.{longest_over, no_length, coded, decoded, Short}
 
 pub longest_over_lem : (f : ℕ → Option ℕ) (g : ℕ → Ty) (i : ℕ) (n : Node) → Below i n → ((j : ℕ) → j < i → f j ≡ longest (g j)) → longest_over f n ≡ longest (build g n)
 unfolding longest_over longest
-longest_over_lem f g i (leafNode k) b h = refl
-longest_over_lem f g i (optionNode a) b h = rw (h a b)
-longest_over_lem f g i (resultNode a c) b h = rw (h a b.0, h c b.1)
-longest_over_lem f g i (pairNode a c) b h = rw (h a b.0, h c b.1)
-longest_over_lem f g i (arrayNode n a) b h = rw (h a b)
-longest_over_lem f g i (vectorNode a) b h = refl
-longest_over_lem f g i bitsNode b h = refl
+longest_over_lem f g i (leaf_node k) b h = refl
+longest_over_lem f g i (option_node a) b h = rw (h a b)
+longest_over_lem f g i (result_node a c) b h = rw (h a b.0, h c b.1)
+longest_over_lem f g i (pair_node a c) b h = rw (h a b.0, h c b.1)
+longest_over_lem f g i (array_node n a) b h = rw (h a b)
+longest_over_lem f g i (vector_node a) b h = refl
+longest_over_lem f g i bits_node b h = refl
 longest_over_lem f g i unknown b h = absurd b
 
 -- ---- longest lengths as numbers

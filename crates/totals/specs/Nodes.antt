@@ -3,7 +3,7 @@ use Rattle.std.specs.Prelude.{List, ◌≡◌, ℕ, ◌+◌, ◌-◌, ◌*◌, �
 use Rattle.std.proofs.Math.Option.{none, some, Option}
 use Rattle.rules.specs.Basics.{pick}
 use Rattle.rules.specs.Totals.{leaf_longest, join}
-use Rattle.node.specs.Names.{Node, leafNode, optionNode, resultNode, pairNode, arrayNode, vectorNode, bitsNode, unknown}
+use Rattle.node.specs.Names.{Node, leaf_node, option_node, result_node, pair_node, array_node, vector_node, bits_node, unknown}
 
 -- ---- longest lengths
 
@@ -13,13 +13,13 @@ behind_tag x y = 1 + max x y
 
 -- a node's longest length, from those of its children
 unfoldable pub longest_over : (ℕ → Option ℕ) → Node → Option ℕ
-longest_over f (leafNode k) = some (leaf_longest k)
-longest_over f (optionNode a) = join behind_tag (some 0) (f a)
-longest_over f (resultNode a b) = join behind_tag (f a) (f b)
-longest_over f (pairNode a b) = join ◌+◌ (f a) (f b)
-longest_over f (arrayNode n a) = join ◌*◌ (some n) (f a)
-longest_over f (vectorNode a) = none
-longest_over f bitsNode = none
+longest_over f (leaf_node k) = some (leaf_longest k)
+longest_over f (option_node a) = join behind_tag (some 0) (f a)
+longest_over f (result_node a b) = join behind_tag (f a) (f b)
+longest_over f (pair_node a b) = join ◌+◌ (f a) (f b)
+longest_over f (array_node n a) = join ◌*◌ (some n) (f a)
+longest_over f (vector_node a) = none
+longest_over f bits_node = none
 longest_over f unknown = some 0
 
 -- the number that stands for "none" among longest lengths
@@ -51,11 +51,11 @@ kept x = min x most
 
 -- how many units a node of footprint 0 has past its first, from those of its children
 unfoldable pub units_over : (ℕ → ℕ) → Node → ℕ
-units_over f (leafNode k) = 0
-units_over f (optionNode a) = 0
-units_over f (resultNode a b) = 0
-units_over f (pairNode a b) = kept (f a + f b + 1)
-units_over f (arrayNode n a) = kept (n * f a + (n - 1))
-units_over f (vectorNode a) = 0
-units_over f bitsNode = 0
+units_over f (leaf_node k) = 0
+units_over f (option_node a) = 0
+units_over f (result_node a b) = 0
+units_over f (pair_node a b) = kept (f a + f b + 1)
+units_over f (array_node n a) = kept (n * f a + (n - 1))
+units_over f (vector_node a) = 0
+units_over f bits_node = 0
 units_over f unknown = 0

@@ -13,7 +13,7 @@ use Rattle.rules.specs.Totals.{foot, unit_cells}
 use Rattle.rules.specs.Table.{count, b_at, node_at, build, ty_at, footprints_of, unit_code, units_of}
 use Rattle.rules.specs.Table.Laws.{Below, Good}
 use Rattle.rules.proofs.Laws.Table.{type_node, good_check, numbers_at}
-use Rattle.node.specs.Names.{Node, leafNode, optionNode, resultNode, pairNode, arrayNode, vectorNode, bitsNode, unknown}
+use Rattle.node.specs.Names.{Node, leaf_node, option_node, result_node, pair_node, array_node, vector_node, bits_node, unknown}
 use Rattle.table.specs.Nodes.{Counted}
 use Rattle.table.specs.Laws.{counted_at}
 use Rattle.totals.specs.Nodes.{most, kept, units_over}
@@ -63,30 +63,30 @@ module _ (g : ℕ → Ty) (i m : ℕ) (cells : (j : ℕ) → j < i → foot (g j
   -- at least one unit
   cells_over : (n : Node) → Below i n → Counted m n → foot (build g n) ≡ 0 → 1 ≤ unit_cells (build g n)
   unfolding foot unit_cells
-  cells_over (leafNode k) b c z = omega arith
-  cells_over (optionNode a) b c z = absurd (omega arith)
-  cells_over (resultNode a d) b c z = absurd (omega arith)
-  cells_over (pairNode a d) b c z = omega (arith, cells a b.0 (omega arith))
-  cells_over (arrayNode n a) b c z = one-le-mul c.0 (cells a b (item_foot n a c.0 z))
-  cells_over (vectorNode a) b c z = absurd (omega arith)
-  cells_over bitsNode b c z = absurd (omega arith)
+  cells_over (leaf_node k) b c z = omega arith
+  cells_over (option_node a) b c z = absurd (omega arith)
+  cells_over (result_node a d) b c z = absurd (omega arith)
+  cells_over (pair_node a d) b c z = omega (arith, cells a b.0 (omega arith))
+  cells_over (array_node n a) b c z = one-le-mul c.0 (cells a b (item_foot n a c.0 z))
+  cells_over (vector_node a) b c z = absurd (omega arith)
+  cells_over bits_node b c z = absurd (omega arith)
   cells_over unknown b c z = absurd b
 
   units_over_lem : (f : ℕ → ℕ) (n : Node) → Below i n → Counted m n → ((j : ℕ) → j < i → f j ≡ unit_code (g j)) → foot (build g n) ≡ 0 → units_over f n ≡ kept (unit_cells (build g n) - 1)
   unfolding units_over foot unit_cells
-  units_over_lem f (leafNode k) b c h z = refl
-  units_over_lem f (optionNode a) b c h z = absurd (omega arith)
-  units_over_lem f (resultNode a d) b c h z = absurd (omega arith)
-  units_over_lem f (pairNode a d) b c h z =
+  units_over_lem f (leaf_node k) b c h z = refl
+  units_over_lem f (option_node a) b c h z = absurd (omega arith)
+  units_over_lem f (result_node a d) b c h z = absurd (omega arith)
+  units_over_lem f (pair_node a d) b c h z =
       let za : foot (g a) ≡ 0 = omega arith in
       let zd : foot (g d) ≡ 0 = omega arith in
       let e : unit_cells (g a) - 1 + (unit_cells (g d) - 1) + 1 ≡ unit_cells (g a) + unit_cells (g d) - 1 = omega (arith, cells a b.0 za, cells d b.1 zd) in
       rw (h a b.0 ∙ code_units (g a) za, h d b.1 ∙ code_units (g d) zd) (kept_pair (unit_cells (g a) - 1) (unit_cells (g d) - 1) ∙ ap kept e)
-  units_over_lem f (arrayNode n a) b c h z =
+  units_over_lem f (array_node n a) b c h z =
       let za : foot (g a) ≡ 0 = item_foot n a c.0 z in
       rw (h a b ∙ code_units (g a) za) (kept_array n (unit_cells (g a) - 1) c.0 ∙ ap kept (past_first n (unit_cells (g a)) c.0 (cells a b za)))
-  units_over_lem f (vectorNode a) b c h z = absurd (omega arith)
-  units_over_lem f bitsNode b c h z = absurd (omega arith)
+  units_over_lem f (vector_node a) b c h z = absurd (omega arith)
+  units_over_lem f bits_node b c h z = absurd (omega arith)
   units_over_lem f unknown b c h z = absurd b
 
 -- ---- in a good table

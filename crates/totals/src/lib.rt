@@ -4,7 +4,7 @@
 ghost use Rattle.std.proofs.Math.Option.{some};
 ghost use Rattle.std.specs.Prelude.{◌≡◌, ◌+◌, ◌-◌, ◌*◌, ◌≤◌, max, eqb, get_or};
 ghost use Rattle.rules.specs.Basics.{pick};
-ghost use Rattle.rules.specs.Totals.{leaf_longest, join, longest as longestLength};
+ghost use Rattle.rules.specs.Totals.{leaf_longest, join, longest as longest_length};
 ghost use Rattle.rules.specs.Table.{check_table, numbers_of, footprints_of, unit_code, units_of, longest_of, as_longest, root};
 ghost use Rattle.table.specs.Names.{fine};
 ghost use Rattle.table.specs.Nodes.{Counted};
@@ -106,7 +106,7 @@ fn as_longest(x: u64) -> Longest
 // The root's longest length, in a table that was checked: rising, so that each node's children come before it.
 fn measure(table: &[u8]) -> Longest
     requires { check_table table.now ≡ fine }
-    ensures { result ≡ as_longest (longestLength (root table.now)) }
+    ensures { result ≡ as_longest (longest_length (root table.now)) }
 {
     let n = table[5] as usize;
     let mut lengths = [0u64; 64];

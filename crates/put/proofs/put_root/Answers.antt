@@ -4,7 +4,7 @@ use denote.Enum.Declared.{tag_of}
 use borrow.Enum.Refused.{opened}
 use Rattle.rules.specs.contracts.Node.{the_type}
 use Rattle.rules.proofs.Laws.Table.{check_good}
-use Rattle.rules.specs.declared.Node.TheVariants.{Vector as vectorNode}
+use Rattle.rules.specs.declared.Node.TheVariants.{Vector as vector_node}
 use Rattle.put.proofs.Parts.{from_start, root_put, items_put, no_items}
 use Rattle.put.proofs.Walking.{put_node, children}
 use Rattle.put.proofs.put_root.Goals as goal
@@ -24,7 +24,7 @@ put_item-requires c = (from_start _ _ c.requires (λ i. (c.shared_slice_known-2-
 pub put_items-requires : goal.put_items-requires
 put_items-requires c =
     let W = (from_start c.args.table.now c.args.cells.now c.requires (λ i. (c.shared_slice_known-2-1.given i).fits) (omega (arith, c.well_formed))) in
-    put_node W (children W c.node_at.ensures (vectorNode _) c.in-Vector.is)
+    put_node W (children W c.node_at.ensures (vector_node _) c.in-Vector.is)
 
 pub returns-in-Root : goal.returns-in-Root
 returns-in-Root c =

@@ -20,7 +20,7 @@ use Rattle.rules.proofs.Laws.Scan.Accept.{accepts, accepted, passed}
 use Rattle.rules.specs.Scan.Steady.{ByLimit, Short}
 use Rattle.rules.proofs.Laws.Scan.Steady.{scan_wider, scan_grown}
 use Rattle.rules.proofs.Laws.Scan.Held.{pass_held}
-use Rattle.rules.specs.Table.{Check, fine, wrong, noLongest, root, check_table, after_check, longest_of}
+use Rattle.rules.specs.Table.{Check, fine, wrong, no_longest, root, check_table, after_check, longest_of}
 use Rattle.rules.specs.Table.Laws.{Good}
 use Rattle.rules.proofs.Laws.Table.{check_good, good_check}
 use Rattle.rules.proofs.Laws.RoundTrip.{unpack_cells, cells_unpacked}
@@ -48,7 +48,7 @@ pub check_refused : (tb : List ℕ) (y : Refusal) → check_table tb ≡ wrong y
     → check_fields (check_table tb) ≡ record { number = y.number; place = y.place; bytes = 0; cells = 0; charge = 0; depth = 0 }
 check_refused tb y e = ap check_fields e
 
-pub longest_refused : (tb : List ℕ) (y : Refusal) → longest_of tb ≡ noLongest y → longest_fields (longest_of tb) ≡ record { number = y.number; place = y.place; has = 0; bytes = 0 }
+pub longest_refused : (tb : List ℕ) (y : Refusal) → longest_of tb ≡ no_longest y → longest_fields (longest_of tb) ≡ record { number = y.number; place = y.place; has = 0; bytes = 0 }
 longest_refused tb y e = ap longest_fields e
 
 -- ---- DEMAND 3: a front read is accepted exactly if the written rules, without limits, read a value there, it nests at most D deep, fills at most C cells, and

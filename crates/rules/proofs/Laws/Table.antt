@@ -10,18 +10,18 @@ use Rattle.rules.specs.Basics.{pick}
 use Rattle.rules.specs.Types.{Ty, result, pair, array, vector, option}
 use Rattle.rules.proofs.Laws.Bits.{both_true}
 use Rattle.rules.specs.Totals.{foot}
-use Rattle.rules.specs.Table.{Node, leafNode, optionNode, resultNode, pairNode, arrayNode, vectorNode, bitsNode, unknown, Check, fine, wrong, count, node_at, build, ty_by, ty_at, marked, sized, allowed, nodes_from, head_check, check_table, numbers_from, numbers_of, after_check, unit_code, units_of}
+use Rattle.rules.specs.Table.{Node, leaf_node, option_node, result_node, pair_node, array_node, vector_node, bits_node, unknown, Check, fine, wrong, count, node_at, build, ty_by, ty_at, marked, sized, allowed, nodes_from, head_check, check_table, numbers_from, numbers_of, after_check, unit_code, units_of}
 use Rattle.rules.specs.Table.Laws.{Below, Good, Passes, Headed}
 
 -- what holds for all children
 pub build_same : (f g : ℕ → Ty) (i : ℕ) (n : Node) → Below i n → ((j : ℕ) → j < i → f j ≡ g j) → build f n ≡ build g n
-build_same f g i (leafNode k) b h = refl
-build_same f g i (optionNode a) b h = ap option (h a b)
-build_same f g i (resultNode a c) b h = ap₂ result (h a b.0) (h c b.1)
-build_same f g i (pairNode a c) b h = ap₂ pair (h a b.0) (h c b.1)
-build_same f g i (arrayNode n a) b h = ap (array n) (h a b)
-build_same f g i (vectorNode a) b h = ap vector (h a b)
-build_same f g i bitsNode b h = refl
+build_same f g i (leaf_node k) b h = refl
+build_same f g i (option_node a) b h = ap option (h a b)
+build_same f g i (result_node a c) b h = ap₂ result (h a b.0) (h c b.1)
+build_same f g i (pair_node a c) b h = ap₂ pair (h a b.0) (h c b.1)
+build_same f g i (array_node n a) b h = ap (array n) (h a b)
+build_same f g i (vector_node a) b h = ap vector (h a b)
+build_same f g i bits_node b h = refl
 build_same f g i unknown b h = absurd b
 
 -- for a table whose first k nodes are good
@@ -43,24 +43,24 @@ type_node tb good = type_prefix tb (count tb) good.few good.nodes
 
 pub allowed_below : (i : ℕ) (n : Node) → allowed i n ≡ true → Below i n
 unfolding allowed
-allowed_below i (leafNode k) e = tt
-allowed_below i (optionNode a) e = ltb-true a i e
-allowed_below i (resultNode a b) e = let r = both_true (ltb a i) (ltb b i) e in (ltb-true a i r.0, ltb-true b i r.1)
-allowed_below i (pairNode a b) e = let r = both_true (ltb a i) (ltb b i) e in (ltb-true a i r.0, ltb-true b i r.1)
-allowed_below i (arrayNode n a) e = ltb-true a i e
-allowed_below i (vectorNode a) e = ltb-true a i e
-allowed_below i bitsNode e = tt
+allowed_below i (leaf_node k) e = tt
+allowed_below i (option_node a) e = ltb-true a i e
+allowed_below i (result_node a b) e = let r = both_true (ltb a i) (ltb b i) e in (ltb-true a i r.0, ltb-true b i r.1)
+allowed_below i (pair_node a b) e = let r = both_true (ltb a i) (ltb b i) e in (ltb-true a i r.0, ltb-true b i r.1)
+allowed_below i (array_node n a) e = ltb-true a i e
+allowed_below i (vector_node a) e = ltb-true a i e
+allowed_below i bits_node e = tt
 allowed_below i unknown e = absurd (let z : ◌≡◌ {A = ℕ} 0 1 = cc in omega arith)
 
 pub below_allowed : (i : ℕ) (n : Node) → Below i n → allowed i n ≡ true
 unfolding allowed
-below_allowed i (leafNode k) h = refl
-below_allowed i (optionNode a) h = lt-ltb a i h
-below_allowed i (resultNode a b) h = rw (lt-ltb a i h.0, lt-ltb b i h.1)
-below_allowed i (pairNode a b) h = rw (lt-ltb a i h.0, lt-ltb b i h.1)
-below_allowed i (arrayNode n a) h = lt-ltb a i h
-below_allowed i (vectorNode a) h = lt-ltb a i h
-below_allowed i bitsNode h = refl
+below_allowed i (leaf_node k) h = refl
+below_allowed i (option_node a) h = lt-ltb a i h
+below_allowed i (result_node a b) h = rw (lt-ltb a i h.0, lt-ltb b i h.1)
+below_allowed i (pair_node a b) h = rw (lt-ltb a i h.0, lt-ltb b i h.1)
+below_allowed i (array_node n a) h = lt-ltb a i h
+below_allowed i (vector_node a) h = lt-ltb a i h
+below_allowed i bits_node h = refl
 below_allowed i unknown h = absurd h
 
 fine_pick : (b : Bool) (x : Check) (y : Refusal) → pick b x (wrong y) ≡ fine → (b ≡ true) × (x ≡ fine)

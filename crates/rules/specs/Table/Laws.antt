@@ -3,19 +3,19 @@ use Rattle.std.specs.Prelude.{true, List, ◌≡◌, length}
 use Prim.Native.Nat.{ℕ, ◌+◌, ◌*◌, ◌≤◌, ◌<◌}
 use Rattle.rules.specs.Refusals.{max_footprint}
 use Rattle.rules.specs.Totals.{foot}
-use Rattle.rules.specs.Table.{Node, leafNode, optionNode, resultNode, pairNode, arrayNode, vectorNode, bitsNode, unknown, count, node_at, ty_at, marked}
+use Rattle.rules.specs.Table.{Node, leaf_node, option_node, result_node, pair_node, array_node, vector_node, bits_node, unknown, count, node_at, ty_at, marked}
 
 -- ---- a node's type
 
 -- a node's children are below i
 abbrev pub Below : ℕ → Node → Type 0
-Below i (leafNode k) = Prim.Unit {0}
-Below i (optionNode a) = a < i
-Below i (resultNode a b) = (a < i) × (b < i)
-Below i (pairNode a b) = (a < i) × (b < i)
-Below i (arrayNode n a) = a < i
-Below i (vectorNode a) = a < i
-Below i bitsNode = Prim.Unit {0}
+Below i (leaf_node k) = Prim.Unit {0}
+Below i (option_node a) = a < i
+Below i (result_node a b) = (a < i) × (b < i)
+Below i (pair_node a b) = (a < i) × (b < i)
+Below i (array_node n a) = a < i
+Below i (vector_node a) = a < i
+Below i bits_node = Prim.Unit {0}
 Below i unknown = ⊥
 
 -- ---- a checked table

@@ -8,7 +8,7 @@ use denote.Enum.Declared.{tag_of}
 use types.Run.{OneOf, miss}
 use borrow.Enum.Refused.{opened}
 use Rattle.rules.specs.contracts.Node.{the_type}
-use Rattle.node.specs.Names.{Node, leafNode, optionNode, resultNode, pairNode, arrayNode, vectorNode, bitsNode, unknown}
+use Rattle.node.specs.Names.{Node, leaf_node, option_node, result_node, pair_node, array_node, vector_node, bits_node, unknown}
 use Rattle.totals.specs.Nodes.{units_over}
 use Rattle.totals.proofs.units_of.Goals as goal
 
@@ -18,13 +18,13 @@ others = 0 ∷ 1 ∷ 2 ∷ 5 ∷ 6 ∷ 7 ∷ []
 
 other : (f : ℕ → ℕ) (n : Node) → OneOf others (tag_of the_type n) → units_over f n ≡ 0
 unfolding units_over
-other f (leafNode k) h = refl
-other f (optionNode a) h = refl
-other f (resultNode a b) h = refl
-other f (pairNode a b) h = absurd (miss others 3 tt h)
-other f (arrayNode n a) h = absurd (miss others 4 tt h)
-other f (vectorNode a) h = refl
-other f bitsNode h = refl
+other f (leaf_node k) h = refl
+other f (option_node a) h = refl
+other f (result_node a b) h = refl
+other f (pair_node a b) h = absurd (miss others 3 tt h)
+other f (array_node n a) h = absurd (miss others 4 tt h)
+other f (vector_node a) h = refl
+other f bits_node h = refl
 other f unknown h = refl
 
 pub returns-then-foot-ne0 : goal.returns-then-foot-ne0

@@ -3,7 +3,7 @@ use mathlib.Core.Path.{refl}
 use native.Mathlib.Omega.{arith}
 use Rattle.rules.proofs.Laws.Put.{put_leaf_lem}
 use Rattle.rules.specs.declared.Leaf.TheVariants.{Bool as bool, Compact as compact}
-use Rattle.rules.specs.declared.Node.TheVariants.{Leaf as leafNode, Option as optionNode, Result as resultNode, Pair as pairNode, Array as arrayNode, Vector as vectorNode, Bits as bitsNode, Unknown as unknown}
+use Rattle.rules.specs.declared.Node.TheVariants.{Leaf as leaf_node, Option as option_node, Result as result_node, Pair as pair_node, Array as array_node, Vector as vector_node, Bits as bits_node, Unknown as unknown}
 use Rattle.rules.specs.declared.Width.TheVariants.{W4 as w4}
 use Rattle.put.proofs.Putting.{same_put}
 use Rattle.put.proofs.Walking.{put_node, behind_item, behind_leaf, cell_there, children, by_kind, tag_stops, tag_first, tag_second, tag_alone, pair_stops, pair_goes, vector_stops, vector_goes, loop_done, loop_stops, loop_again}
@@ -13,62 +13,62 @@ use Rattle.put.proofs.walk.+walk.Goals as goal
 
 pub put_item-put_option-requires : goal.put_item-put_option-requires
 put_item-put_option-requires t c =
-    let below = children c.requires c.node_at.ensures (optionNode _) c.in-Option.is in
+    let below = children c.requires c.node_at.ensures (option_node _) c.in-Option.is in
     (omega (arith, below), put_node c.requires below)
 
 pub put_item-put_result-requires : goal.put_item-put_result-requires
 put_item-put_result-requires t c =
-    let below = children c.requires c.node_at.ensures (resultNode _ _) c.in-Result.is in
+    let below = children c.requires c.node_at.ensures (result_node _ _) c.in-Result.is in
     (omega (arith, below), (put_node c.requires below.0, put_node c.requires below.1))
 
 pub put_item-put_pair-requires : goal.put_item-put_pair-requires
 put_item-put_pair-requires t c =
-    let below = children c.requires c.node_at.ensures (pairNode _ _) c.in-Pair.is in
+    let below = children c.requires c.node_at.ensures (pair_node _ _) c.in-Pair.is in
     (omega (arith, below), (put_node c.requires below.0, put_node c.requires below.1))
 
 pub put_item-put_items-requires : goal.put_item-put_items-requires
 put_item-put_items-requires t c =
-    let below = children c.requires c.node_at.ensures (arrayNode _ _) c.in-Array.is in
+    let below = children c.requires c.node_at.ensures (array_node _ _) c.in-Array.is in
     (omega (arith, below), put_node c.requires below)
 
 pub put_item-put_vector-requires : goal.put_item-put_vector-requires
 put_item-put_vector-requires t c =
-    let below = children c.requires c.node_at.ensures (vectorNode _) c.in-Vector.is in
+    let below = children c.requires c.node_at.ensures (vector_node _) c.in-Vector.is in
     (omega (arith, below), put_node c.requires below)
 
 pub put_item-returns-in-Leaf : goal.put_item-returns-in-Leaf
 put_item-returns-in-Leaf t c =
-    let both = by_kind c.requires c.node_at.ensures (leafNode _) c.in-Leaf.is _ _ (same_put _ _ _ _ _ _ _ (put_leaf_lem _ _ _) (c.put_leaf.ensures.answers, c.put_leaf.ensures.writes)) in
+    let both = by_kind c.requires c.node_at.ensures (leaf_node _) c.in-Leaf.is _ _ (same_put _ _ _ _ _ _ _ (put_leaf_lem _ _ _) (c.put_leaf.ensures.answers, c.put_leaf.ensures.writes)) in
     record { answers = both.0; writes = both.1 }
 
 pub put_item-returns-in-Option : goal.put_item-returns-in-Option
 put_item-returns-in-Option t c =
-    let both = by_kind c.requires c.node_at.ensures (optionNode _) c.in-Option.is _ _ (c.put_option.ensures.answers, c.put_option.ensures.writes) in
+    let both = by_kind c.requires c.node_at.ensures (option_node _) c.in-Option.is _ _ (c.put_option.ensures.answers, c.put_option.ensures.writes) in
     record { answers = both.0; writes = both.1 }
 
 pub put_item-returns-in-Result : goal.put_item-returns-in-Result
 put_item-returns-in-Result t c =
-    let both = by_kind c.requires c.node_at.ensures (resultNode _ _) c.in-Result.is _ _ (c.put_result.ensures.answers, c.put_result.ensures.writes) in
+    let both = by_kind c.requires c.node_at.ensures (result_node _ _) c.in-Result.is _ _ (c.put_result.ensures.answers, c.put_result.ensures.writes) in
     record { answers = both.0; writes = both.1 }
 
 pub put_item-returns-in-Pair : goal.put_item-returns-in-Pair
 put_item-returns-in-Pair t c =
-    let both = by_kind c.requires c.node_at.ensures (pairNode _ _) c.in-Pair.is _ _ (c.put_pair.ensures.answers, c.put_pair.ensures.writes) in
+    let both = by_kind c.requires c.node_at.ensures (pair_node _ _) c.in-Pair.is _ _ (c.put_pair.ensures.answers, c.put_pair.ensures.writes) in
     record { answers = both.0; writes = both.1 }
 
 pub put_item-returns-in-Array : goal.put_item-returns-in-Array
 put_item-returns-in-Array t c =
-    let both = by_kind c.requires c.node_at.ensures (arrayNode _ _) c.in-Array.is _ _ (c.put_items.ensures.answers, c.put_items.ensures.writes) in
+    let both = by_kind c.requires c.node_at.ensures (array_node _ _) c.in-Array.is _ _ (c.put_items.ensures.answers, c.put_items.ensures.writes) in
     record { answers = both.0; writes = both.1 }
 
 pub put_item-returns-in-Vector : goal.put_item-returns-in-Vector
 put_item-returns-in-Vector t c =
-    let both = by_kind c.requires c.node_at.ensures (vectorNode _) c.in-Vector.is _ _ (c.put_vector.ensures.answers, c.put_vector.ensures.writes) in
+    let both = by_kind c.requires c.node_at.ensures (vector_node _) c.in-Vector.is _ _ (c.put_vector.ensures.answers, c.put_vector.ensures.writes) in
     record { answers = both.0; writes = both.1 }
 
 pub put_item-returns-in-Bits : goal.put_item-returns-in-Bits
 put_item-returns-in-Bits t c =
-    let both = by_kind c.requires c.node_at.ensures bitsNode c.in-Bits.is _ _ (c.put_bits.ensures.answers, c.put_bits.ensures.writes) in
+    let both = by_kind c.requires c.node_at.ensures bits_node c.in-Bits.is _ _ (c.put_bits.ensures.answers, c.put_bits.ensures.writes) in
     record { answers = both.0; writes = both.1 }
 
 pub put_item-returns-in-Unknown : goal.put_item-returns-in-Unknown

@@ -6,7 +6,7 @@ use Rattle.rules.proofs.Laws.Scan.Single.{vector_refused}
 use Rattle.rules.proofs.Laws.Scan.Walk.{result_then}
 use Rattle.rules.proofs.Laws.Wire.Used.{leaf_used}
 use Rattle.rules.specs.declared.Leaf.TheVariants.{Compact as compact}
-use Rattle.rules.specs.declared.Node.TheVariants.{Leaf as leafNode, Option as optionNode, Result as resultNode, Pair as pairNode, Array as arrayNode, Vector as vectorNode, Bits as bitsNode, Unknown as unknown}
+use Rattle.rules.specs.declared.Node.TheVariants.{Leaf as leaf_node, Option as option_node, Result as result_node, Pair as pair_node, Array as array_node, Vector as vector_node, Bits as bits_node, Unknown as unknown}
 use Rattle.rules.specs.declared.Width.TheVariants.{W4 as w4}
 use Rattle.leaf.specs.Laws.{count_got, count_bad}
 use Rattle.rules.proofs.Laws.Scan.Landing.{stops, same_pass_as}
@@ -28,62 +28,62 @@ scan_item-returns-then-feet-node-eq0 t c =
 
 pub scan_item-scan_option-requires : goal.scan_item-scan_option-requires
 scan_item-scan_option-requires t c =
-    let below = children c.requires c.node_at.ensures (optionNode _) c.in-Option.is in
+    let below = children c.requires c.node_at.ensures (option_node _) c.in-Option.is in
     (omega (arith, below), walk_node c.requires below)
 
 pub scan_item-scan_result-requires : goal.scan_item-scan_result-requires
 scan_item-scan_result-requires t c =
-    let below = children c.requires c.node_at.ensures (resultNode _ _) c.in-Result.is in
+    let below = children c.requires c.node_at.ensures (result_node _ _) c.in-Result.is in
     (omega (arith, below), (walk_node c.requires below.0, walk_node c.requires below.1))
 
 pub scan_item-scan_pair-requires : goal.scan_item-scan_pair-requires
 scan_item-scan_pair-requires t c =
-    let below = children c.requires c.node_at.ensures (pairNode _ _) c.in-Pair.is in
+    let below = children c.requires c.node_at.ensures (pair_node _ _) c.in-Pair.is in
     (omega (arith, below), (walk_node c.requires below.0, walk_node c.requires below.1))
 
 pub scan_item-scan_items-requires : goal.scan_item-scan_items-requires
 scan_item-scan_items-requires t c =
-    let below = children c.requires c.node_at.ensures (arrayNode _ _) c.in-Array.is in
+    let below = children c.requires c.node_at.ensures (array_node _ _) c.in-Array.is in
     (omega (arith, below), walk_node c.requires below)
 
 pub scan_item-scan_vector-requires : goal.scan_item-scan_vector-requires
 scan_item-scan_vector-requires t c =
-    let below = children c.requires c.node_at.ensures (vectorNode _) c.in-Vector.is in
+    let below = children c.requires c.node_at.ensures (vector_node _) c.in-Vector.is in
     (omega (arith, below), walk_node c.requires below)
 
 pub scan_item-returns-in-Leaf : goal.scan_item-returns-in-Leaf
 scan_item-returns-in-Leaf t c =
-    let both = by_kind c.requires c.node_at.ensures (leafNode _) c.in-Leaf.is _ _ (same_pass_as _ _ _ _ _ _ (pass_leaf _ _ _ _ _ _) (c.scan_leaf.ensures.answers, c.scan_leaf.ensures.writes)) in
+    let both = by_kind c.requires c.node_at.ensures (leaf_node _) c.in-Leaf.is _ _ (same_pass_as _ _ _ _ _ _ (pass_leaf _ _ _ _ _ _) (c.scan_leaf.ensures.answers, c.scan_leaf.ensures.writes)) in
     record { answers = both.0; writes = both.1 }
 
 pub scan_item-returns-in-Option : goal.scan_item-returns-in-Option
 scan_item-returns-in-Option t c =
-    let both = by_kind c.requires c.node_at.ensures (optionNode _) c.in-Option.is _ _ (c.scan_option.ensures.answers, c.scan_option.ensures.writes) in
+    let both = by_kind c.requires c.node_at.ensures (option_node _) c.in-Option.is _ _ (c.scan_option.ensures.answers, c.scan_option.ensures.writes) in
     record { answers = both.0; writes = both.1 }
 
 pub scan_item-returns-in-Result : goal.scan_item-returns-in-Result
 scan_item-returns-in-Result t c =
-    let both = by_kind c.requires c.node_at.ensures (resultNode _ _) c.in-Result.is _ _ (c.scan_result.ensures.answers, c.scan_result.ensures.writes) in
+    let both = by_kind c.requires c.node_at.ensures (result_node _ _) c.in-Result.is _ _ (c.scan_result.ensures.answers, c.scan_result.ensures.writes) in
     record { answers = both.0; writes = both.1 }
 
 pub scan_item-returns-in-Pair : goal.scan_item-returns-in-Pair
 scan_item-returns-in-Pair t c =
-    let both = by_kind c.requires c.node_at.ensures (pairNode _ _) c.in-Pair.is _ _ (c.scan_pair.ensures.answers, c.scan_pair.ensures.writes) in
+    let both = by_kind c.requires c.node_at.ensures (pair_node _ _) c.in-Pair.is _ _ (c.scan_pair.ensures.answers, c.scan_pair.ensures.writes) in
     record { answers = both.0; writes = both.1 }
 
 pub scan_item-returns-in-Array : goal.scan_item-returns-in-Array
 scan_item-returns-in-Array t c =
-    let both = by_kind c.requires c.node_at.ensures (arrayNode _ _) c.in-Array.is _ _ (same_pass_as _ _ _ _ _ _ (pass_array _ _ _ _ _ _ _) (c.scan_items.ensures.answers, c.scan_items.ensures.writes)) in
+    let both = by_kind c.requires c.node_at.ensures (array_node _ _) c.in-Array.is _ _ (same_pass_as _ _ _ _ _ _ (pass_array _ _ _ _ _ _ _) (c.scan_items.ensures.answers, c.scan_items.ensures.writes)) in
     record { answers = both.0; writes = both.1 }
 
 pub scan_item-returns-in-Vector : goal.scan_item-returns-in-Vector
 scan_item-returns-in-Vector t c =
-    let both = by_kind c.requires c.node_at.ensures (vectorNode _) c.in-Vector.is _ _ (c.scan_vector.ensures.answers, c.scan_vector.ensures.writes) in
+    let both = by_kind c.requires c.node_at.ensures (vector_node _) c.in-Vector.is _ _ (c.scan_vector.ensures.answers, c.scan_vector.ensures.writes) in
     record { answers = both.0; writes = both.1 }
 
 pub scan_item-returns-in-Bits : goal.scan_item-returns-in-Bits
 scan_item-returns-in-Bits t c =
-    let both = by_kind c.requires c.node_at.ensures bitsNode c.in-Bits.is _ _ (c.scan_bits.ensures.answers, c.scan_bits.ensures.writes) in
+    let both = by_kind c.requires c.node_at.ensures bits_node c.in-Bits.is _ _ (c.scan_bits.ensures.answers, c.scan_bits.ensures.writes) in
     record { answers = both.0; writes = both.1 }
 
 pub scan_item-returns-in-Unknown : goal.scan_item-returns-in-Unknown
