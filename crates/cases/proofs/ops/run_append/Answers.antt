@@ -1,0 +1,10 @@
+-- `run_append` lends no more cells and bytes than there are. Assumes nothing.
+use native.Mathlib.Omega.{arith}
+use lib.ListN.{length-take}
+use Rattle.cases.proofs.ops.run_append.Goals as goal
+
+pub slice_bounds-compare_append-end : goal.slice_bounds-compare_append-end
+slice_bounds-compare_append-end c = simp length-take (omega arith)
+
+pub slice_bounds-compare_append-end-2 : goal.slice_bounds-compare_append-end-2
+slice_bounds-compare_append-end-2 c = simp length-take (omega arith)
