@@ -1,2 +1,4 @@
+pub mod Answers
+pub mod Example
 pub mod Writing
 pub mod Reading

@@ -16,7 +16,7 @@ use Rattle.rules.specs.declared.Scan.TheVariants.{Done as done, Refused as stopp
 use Rattle.rules.specs.declared.Totals.{Totals}
 use Rattle.report.specs.Text.{ok_line, refused_line, cell_line, program_limits, report_of}
 use Rattle.report.specs.Puts.{Puts}
-use Rattle.report.specs.Answers.{report_refused, report_done, cells_counted}
+use Rattle.report.proofs.Answers.{report_refused, report_done, cells_counted}
 use Rattle.report.proofs.Writing.{same_text}
 
 -- the cells before

@@ -11,7 +11,7 @@ use Rattle.rules.specs.Basics.{flat}
 use Rattle.rules.proofs.Laws.Places.{sets_join, sets_length}
 use Rattle.report.specs.Text.{spaced, cell_line}
 use Rattle.report.specs.Puts.{Puts, ended}
-use Rattle.report.specs.Answers.{cells_length}
+use Rattle.report.proofs.Answers.{cells_length}
 
 pub byte_put : (l m : List ℕ) (at v : ℕ) → m ≡ set l at v → Puts (v ∷ []) at l (at + 1) m
 byte_put l m at v e = record { ends = refl; holds = e }

@@ -1,16 +1,5 @@
--- The example of the rules: two 16-bit numbers, and the four lines that are the whole output.
-use Rattle.std.specs.Prelude.{List, [], ◌∷◌, ◌≡◌, refl, ℕ}
-use Rattle.rules.specs.Bytes.{le_value}
-use Rattle.rules.specs.Compact.{fits, settled, form0, compact_from}
-use Rattle.rules.specs.Jobs.{read_whole}
-use Rattle.rules.specs.Parser.{more, next, map_res}
-use Rattle.rules.specs.Scan.{barred, unless, finish, run, kept, finished, scan, scanned, filling, scan_all}
-use Rattle.rules.specs.Table.{node_of, node_at, node_in, ty_by, ty_at, root, allowed, nodes_from, head_check, check_table}
-use Rattle.rules.specs.Totals.{foot}
-use Rattle.rules.specs.Trace.{longer, ◌▷◌, repeat, on, trace}
-use Rattle.rules.specs.Cells.{leaf_cells}
-use Rattle.rules.specs.Wire.{whole, number_from, placed, leaf_from}
-use Rattle.report.specs.Text.{decimal_in, decimal, ok_line, cell_line, report_lines, report_of}
+-- The example of the rules, whose four lines `example` of proofs/Example.antt computes: a table, and two 16-bit numbers.
+use Rattle.std.specs.Prelude.{List, [], ◌∷◌, ℕ}
 
 -- 57 54 44 01 00 02 03 02 00 00 0a 00 00 00: a vector of 16-bit numbers
 abbrev pub shorts : List ℕ
@@ -19,13 +8,3 @@ shorts = 0x57 ∷ 0x54 ∷ 0x44 ∷ 0x01 ∷ 0x00 ∷ 0x02 ∷ 0x03 ∷ 0x02 ∷
 -- 08 01 00 02 00: 1 and 2
 abbrev pub one_and_two : List ℕ
 one_and_two = 0x08 ∷ 0x01 ∷ 0x00 ∷ 0x02 ∷ 0x00 ∷ []
-
--- `ok 5 3 4 1`, `2`, `1`, `2`
-pub example : report_of shorts one_and_two
-    ≡ 111 ∷ 107 ∷ 32 ∷ 53 ∷ 32 ∷ 51 ∷ 32 ∷ 52 ∷ 32 ∷ 49 ∷ 10
-    ∷ 50 ∷ 10
-    ∷ 49 ∷ 10
-    ∷ 50 ∷ 10
-    ∷ []
-unfolding le_value fits settled form0 compact_from read_whole more next map_res barred unless finish run kept finished scan scanned filling scan_all node_of node_at node_in ty_by ty_at root allowed nodes_from head_check check_table foot longer ◌▷◌ repeat on trace leaf_cells whole number_from placed leaf_from decimal_in decimal ok_line cell_line report_lines report_of
-example = refl

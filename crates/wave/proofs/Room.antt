@@ -5,7 +5,7 @@ use Prim.Native.Nat.{ℕ, ◌≤◌}
 use native.Mathlib.Omega.{arith}
 use lib.ListN.{length}
 use Rattle.report.specs.Text.{report_of, unreadable, most_bytes}
-use Rattle.report.specs.Answers.{report_fits, unreadable_fits}
+use Rattle.report.proofs.Answers.{report_fits, unreadable_fits}
 
 pub whole_report : (tb s : List ℕ) (r room : ℕ) → r ≡ length (report_of tb s) → room ≡ most_bytes → r ≤ room
 whole_report tb s r room e f = omega (arith, report_fits tb s)

@@ -1,7 +1,6 @@
 -- What is proved of every report: how long it is, and what it says of the value that was read; and that the contracts allow no other.
 use Rattle.std.specs.Prelude.{List, ◌++◌, [], ◌∷◌, ◌≡◌, refl, ℕ, ◌+◌, ◌*◌, ◌≤◌, length, drop, take}
 use Rattle.std.proofs.Common.{ap, sym, ◌∙◌, arith, length-append, take_at}
-use Rattle.std.proofs.lemmas.List.Edits.{sets}
 use Rattle.rules.specs.Basics.{flat, onto}
 use Rattle.rules.specs.Cells.{cells}
 use Rattle.rules.proofs.Laws.Demands.{whole_accepts, whole_accepted, whole_decided}
@@ -21,6 +20,7 @@ use Rattle.rules.specs.declared.Scan.TheVariants.{Done as done, Refused as stopp
 use Rattle.rules.specs.declared.Totals.{Totals}
 use Rattle.report.specs.Text.{decimal, spaced, line_of, ok, refused, ok_line, refused_line, cell_line, report_lines, program_limits, report_of, unreadable, most_bytes}
 use Rattle.report.specs.Numerals.{decimal_short}
+use Rattle.report.specs.Contract.{Contract}
 
 -- ---- how long lines are
 
@@ -93,11 +93,7 @@ pub unreadable_fits : length unreadable ≤ most_bytes
 unfolding unreadable
 unreadable_fits = omega (arith, refused_length 40 0)
 
--- ---- what the contracts of the public functions say, for a text: r is the answer, l the lent memory and m what it is afterwards
-
-pub record Contract (text l : List ℕ) (r : ℕ) (m : List ℕ) : Type 0 where
-  pub answers : r ≡ length text
-  pub writes : m ≡ sets l 0 text
+-- ---- what the contracts of the public functions allow, for a text: r is the answer, l the lent memory and m what it is afterwards
 
 -- any two answers that it allows are equal, and so is the memory
 pub one_report : (text l : List ℕ) (r r' : ℕ) (m m' : List ℕ) → Contract text l r m → Contract text l r' m' → (r ≡ r') × (m ≡ m')
