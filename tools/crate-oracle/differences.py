@@ -17,7 +17,7 @@ import model
 VEC = {name: draw.table_bytes(nodes + [(10, len(nodes) - 1, 0)]) for name, nodes in {
     "()": [(0, 0, 0)], "u8": [(3, 1, 0)], "bool": [(1, 0, 0)], "Option<u16>": [(3, 2, 0), (6, 0, 0)],
     "[u8; 16385]": [(3, 1, 0), (9, 0, 16385)]}.items()}
-BITS, F32, OPTIONBOOL, CAGE = (draw.table_bytes([n]) for n in ((11, 0, 0), (5, 4, 0), (2, 0, 0), (10, 0, 0)))
+BITS, F32, OPTIONBOOL = (draw.table_bytes([n]) for n in ((11, 0, 0), (5, 4, 0), (2, 0, 0)))
 
 
 def read(table, s, D=16, M=65536):
@@ -82,10 +82,6 @@ LIST = [
      "sdec Vec<bool> 1 16384 02000100", "err 4 16384 " + MEMORY, read(VEC["bool"], "02000100", 1, 16384), "refused 16 0"),
     ("", "`06 00 01 00` as a vector of bools, D 1, M 16385", "sdec Vec<bool> 1 16385 06000100",
      "err 4 16384 " + SHORT, read(VEC["bool"], "06000100", 1, 16385), "refused 16 0"),
-    ("no bound on nesting in writing", "65 vectors, each in the one before", f"senc Cage {','.join(['1'] * 64)},0",
-     "ok " + "04" * 64 + "00", write(CAGE, *[1] * 64, 0), "refused 15 64"),
-    ("any D is taken", "`00` as a vector of itself, D 65, M 1", "sdec Cage 65 1 00",
-     "ok", read(CAGE, "00", 65, 1), "refused 35 0"),
     ("a refused descent leaves the level raised", "levels in, in, out, in under D 1", "ctron 1 100 - d,d,a,d",
      "ok .x.x", None, None),
     ("no vector of items above 16384 bytes", "`00` as a vector of 16385 bytes each", lambda: decodes("[u8; 16385]"),
