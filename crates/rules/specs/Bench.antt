@@ -1,4 +1,4 @@
--- The starred plans of the bench as one table, and the one statement that the definitions answer each of them so.
+-- The starred plans of the bench as one table, and when a plan is answered rightly.
 use Rattle.std.specs.Prelude.{true, false, List, [], ◌∷◌, ◌≡◌, ℕ, ◌-◌, ◌^◌, length}
 use Rattle.rules.specs.Refusals.{range_at, bit_count_at, depth_at, memory_at}
 use Rattle.rules.specs.Types.{w2, w4, fixed, compact, Ty, leaf, vector, bits, Val}

@@ -1,4 +1,4 @@
--- The demands as sentences about whole jobs: the answers of `read_front`, `read_whole` and `write_cells` are the public functions' own, by their contracts.
+-- What the demands say of whole jobs: a value that was written, and an answer that was decided without cells.
 use Rattle.std.specs.Prelude.{List, ◌≡◌, ℕ, ◌≤◌, length}
 use Rattle.rules.specs.Types.{Ty, Val, Fits}
 use Rattle.rules.specs.Wire.{encode}

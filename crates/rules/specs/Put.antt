@@ -1,4 +1,4 @@
--- Writing, kind by kind: the bytes of the value that cells say, and how many cells it takes. A writer goes by these laws and makes no value.
+-- Writing, kind by kind: the bytes of the value that cells say, and how many cells it takes. A writer makes no value.
 pub mod Relative
 use Rattle.std.specs.Prelude.{List, ◌++◌, ℕ, ◌+◌, length}
 use Rattle.rules.specs.Types.{Leaf, Ty}
@@ -20,8 +20,6 @@ put_of at pos (bad y) = put_not y
 -- what f gives of the first, and then the bytes of what follows it
 abbrev pub ahead : {A : Type 0} → (A → List ℕ) → (A → ℕ → Res (List ℕ)) → Res A → Res (List ℕ)
 ahead f q r = next r (λ v n. map_res (λ l. f v ++ l) (q v n))
-
--- ---- the kinds
 
 abbrev pub put_leaf : Leaf → Parser (List ℕ)
 put_leaf k at cs = map_res (leaf_bytes k) (leaf_taken k at cs)

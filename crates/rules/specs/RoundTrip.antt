@@ -1,4 +1,4 @@
--- What the readers and writers of bytes and of cells undo: demand 2 over the definitions.
+-- What writing back what was read gives.
 use Rattle.std.specs.Prelude.{List, ◌≡◌, ℕ, ◌≤◌, length, take}
 use Rattle.rules.specs.Types.{Ty, Val, Fits}
 use Rattle.rules.specs.Bits.{keep}

@@ -1,4 +1,4 @@
--- Laws of bits in words: bits come back from their words, and words from their bits but for the bits past the last.
+-- When bits are alike but for those that don't count: what a word of bits is compared by.
 use Rattle.std.specs.Prelude.{List, [], ◌∷◌, ◌≡◌, ℕ, ◌%◌, ◌^◌}
 
 -- `w` is `l` but for bits that don't count: of each unit of l the lowest so many bits are kept

@@ -1,5 +1,4 @@
--- Where bits stand in words, over the width of a word: bit i of all, a word gathered from its last bit to its first, words stored one after another, and the one
--- word in which a bit past n can stand.
+-- Bits in words, over the width of a word: a word gathered from its last bit to its first, and words stored one after another.
 use Rattle.std.specs.Prelude.{Bool, List, ℕ, ◌+◌, ◌-◌, ◌*◌, drop, take}
 use Rattle.std.proofs.lemmas.List.Edits.{sets}
 use Rattle.rules.specs.Bits.{bits_value, pack}

@@ -1,4 +1,4 @@
--- Added bytes change the reading of a compact number only where it was short.
+-- The reading of a compact number with bytes added.
 use Rattle.std.specs.Prelude.{◌⊎◌, ◌≡◌}
 use Rattle.rules.specs.Compact.{Answer, short}
 

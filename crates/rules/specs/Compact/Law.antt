@@ -1,5 +1,4 @@
--- THE LAW of compact numbers, once over the width: a number is read at a width exactly if the bytes open with that value's one encoding and the value fits
--- the width. `compact_reads` is one half, `compact_opens` the other, `compact_exactly` both.
+-- When bytes open with the one encoding of a value: what THE LAW of compact numbers (`compact_exactly`) is about.
 use Rattle.std.specs.Prelude.{true, List, ◌≡◌, length}
 use Prim.Native.Nat.{ℕ}
 use Rattle.std.proofs.Math.ListN.{take}

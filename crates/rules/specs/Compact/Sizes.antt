@@ -1,4 +1,4 @@
--- Laws of `significant`, the number of significant bytes.
+-- When a value has so many significant bytes.
 use Rattle.std.specs.Prelude.{ℕ, suc, ◌*◌, ◌^◌, ◌≤◌, ◌<◌}
 
 -- v has suc n significant bytes

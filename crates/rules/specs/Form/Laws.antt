@@ -1,4 +1,4 @@
--- Reading what was written, and writing what was read, once for every form: both follow for all types from the same two laws of leaves and of bit vectors.
+-- When reading undoes writing, and writing reading, for a form: what is asked of its leaves and bit vectors, and what follows of every type.
 use Rattle.std.specs.Prelude.{Bool, length}
 use mathlib.Core.List.{List}
 use Prim.Native.Nat.{ℕ, ◌≤◌, ◌<◌}

@@ -1,4 +1,4 @@
--- Every unit that is written: what holds of the units of leaves and of bit vectors holds of all. So each byte is below 256, and each cell below 2^64.
+-- The types whose units a law holds of: those with no bit vector in them, or any.
 use Rattle.rules.specs.Types.{Ty, leaf, nothing, result, pair, array, vector, bits}
 
 -- a type with no bit vector in it, for B = ⊥, and any type, for B = Unit

@@ -1,4 +1,4 @@
--- When a reader undoes a writer, and the other way round: a law for each way of putting readers together.
+-- When a reader undoes a writer, and the other way round.
 use Rattle.std.specs.Prelude.{List, ◌++◌, ℕ, ◌≤◌, take}
 use Rattle.std.proofs.Math.Path.{◌≡◌}
 use Rattle.std.proofs.Math.ListN.{length}

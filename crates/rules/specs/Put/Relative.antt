@@ -1,5 +1,4 @@
--- Places are relative: what a reader answers at a place is what it answers at 0, but that a refusal's place is further on by so much. So a leaf or bits can be
--- put with places counted from their own first cell.
+-- Places are relative: the same answer further on, and the readers that give it.
 use Rattle.std.specs.Prelude.{List, ◌≡◌, ℕ, ◌+◌, ◌≤◌, length}
 use Rattle.rules.specs.Parser.{Res, got, bad, Parser}
 use Rattle.rules.specs.Refusals.{because}

@@ -1,5 +1,4 @@
--- DEMAND 3: a scan is done exactly if the written rule reads a value that nests at most D deep, fills at most C cells, and has no vector or charges less than M.
--- `run_ran` says it of traces, by induction along the trace; `along` takes it to types.
+-- DEMAND 3, its sentence: `Accepted` says when a value at the front of a message is accepted under D, M and C, and `answer` what is answered. `Ran` says the same of a trace.
 use Rattle.std.specs.Prelude.{List, ◌⊎◌, ℕ, ◌+◌, max, ◌≤◌, ◌<◌, length}
 use Rattle.std.proofs.Math.Path.{◌≡◌}
 use Rattle.rules.specs.Types.{Ty, Val}

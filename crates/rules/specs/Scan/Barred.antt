@@ -1,4 +1,4 @@
--- When a limit bars an item: exactly if the item does not keep within D, M and C. Larger limits bar less.
+-- When a limit bars an item: exactly if the item does not keep within D, M and C. And when limits are larger.
 use Rattle.std.specs.Prelude.{◌⊎◌, ◌≡◌, ◌+◌, ◌≤◌, ◌<◌, length}
 use Rattle.std.proofs.Math.Option.{none, some, Option}
 use Rattle.rules.specs.Refusals.{Refusal, depth_at, memory_at, room_at}

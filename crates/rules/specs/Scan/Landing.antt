@@ -1,4 +1,4 @@
--- For the proofs of code: what a function that passes one item shows at its returns: its answer is the pass's, and the cells have what the pass leaves there.
+-- For the proofs of code: what a function that passes one item has to show.
 use Rattle.std.specs.Prelude.{List, ◌≡◌, ℕ}
 use Rattle.rules.specs.Scan.Pass.{Pass, landed}
 use Rattle.rules.specs.declared.Scan.{Scan}

@@ -1,5 +1,5 @@
--- For the proofs of code: the limited reader kind by kind. `pass_at` is a reader at level lv and offset `at`, with the totals so far: its answer, with the offset
--- where it ended, and the cells of the items that it passed. Each law says what it is over its children, so that a walker's contract is met kind by kind.
+-- The limited reader kind by kind. `pass_at` is a reader at level lv and offset `at`, with the totals so far: its answer, with the offset where it ended, and the cells of the
+-- items that it passed.
 use Rattle.std.specs.Prelude.{List, ◌++◌, [], ℕ, zero, suc, ◌+◌, ◌-◌, leb, drop}
 use Rattle.std.proofs.Math.Option.{none, some, Option}
 use Rattle.std.proofs.lemmas.List.Edits.{sets}

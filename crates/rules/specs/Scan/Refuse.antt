@@ -1,4 +1,4 @@
--- Why a scan is refused: by a limit, at the first item that it bars, or by the written rule, where the limits let every item pass; with that number and place, both ways.
+-- Why a scan is refused: by a limit, at the first item that it bars, or by the written rule, where the limits let every item pass.
 use Rattle.std.specs.Prelude.{List, ◌⊎◌, ◌≡◌, ℕ}
 use Rattle.rules.specs.Refusals.{Refusal}
 use Rattle.rules.specs.Types.{Ty}

@@ -1,4 +1,4 @@
--- One item under the limits, by the tests that decide it: for the code that passes scalars, heads and units.
+-- One item under the limits, for the code that passes scalars, heads and units.
 use Rattle.std.specs.Prelude.{Bool, ◌≡◌}
 use mathlib.Core.List.{List, [], ◌∷◌}
 use Prim.Native.Nat.{ℕ, ◌+◌, max}

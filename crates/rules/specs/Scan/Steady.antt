@@ -1,4 +1,4 @@
--- Larger limits change only refusals by a limit, and added bytes only refusals as short; neither changes an accepted answer.
+-- Refused by a limit, and refused as short: what larger limits and added bytes can change.
 use Rattle.std.proofs.Math.Path.{◌≡◌}
 use Rattle.rules.specs.Refusals.{Refusal}
 use Rattle.rules.specs.Scan.{Scan, done, stopped}

@@ -1,4 +1,4 @@
--- Laws of the table: the one that unfolds a node's type, and what a checked table is, exactly.
+-- What a checked table is, exactly.
 use Rattle.std.specs.Prelude.{true, List, ◌≡◌, length}
 use Prim.Native.Nat.{ℕ, ◌+◌, ◌*◌, ◌≤◌, ◌<◌}
 use Rattle.rules.specs.Refusals.{max_footprint}

@@ -1,8 +1,6 @@
--- Bounds by a type: an encoding is at most as long as the longest length, and that is at most twice the footprint. And by cells: nine bytes for each at most.
+-- A bound, where there is a longest length.
 use Rattle.std.specs.Prelude.{ℕ, ◌*◌, ◌≤◌}
 use Rattle.std.proofs.Math.Option.{none, some, Option}
-
--- ---- every encoding
 
 -- at most the bound, where there is one
 abbrev pub AtMost : Option ℕ → ℕ → Type 0

@@ -1,4 +1,4 @@
--- A type's trace follows its reader: it ends where the reader does, and adds up to the value's nesting, charge, vectors and cells.
+-- When a type's trace follows its reader, and what a value adds to the sums.
 use Rattle.std.specs.Prelude.{List, ℕ, ◌+◌, max}
 use Rattle.std.proofs.Common.{inl, inr}
 use Rattle.rules.specs.Basics.{flat, total, highest}

@@ -1,4 +1,4 @@
--- A trace of a message with bytes added has the same items, or the first ones up to a refusal as short.
+-- When a trace of a message with bytes added has the same items, or the first ones up to a refusal as short.
 use Rattle.std.specs.Prelude.{List, ◌++◌, ◌⊎◌, ℕ}
 use Rattle.std.proofs.Math.Path.{◌≡◌}
 use Rattle.rules.specs.Parser.{Res, got, bad}

@@ -1,4 +1,4 @@
--- Leaves and bit vectors over bytes: what was written is read, and what was read is written back but for the bits past n of a bit vector.
+-- When what was read is written back but for the bits past n of a bit vector.
 use Rattle.std.specs.Prelude.{Bool, List, ℕ, ◌≤◌, ◌<◌, take}
 use Rattle.std.proofs.Math.Path.{◌≡◌}
 use Rattle.std.proofs.Math.ListN.{length}
@@ -6,8 +6,6 @@ use Rattle.rules.specs.Types.{Leaf, bound}
 use Rattle.rules.specs.Bits.{words8, pack, lanes, counted}
 use Rattle.rules.specs.Bits.Laws.{Like}
 use Rattle.rules.specs.Wire.{leaf_bytes}
-
--- ---- what was read is written back
 
 -- exactly so, at a leaf
 abbrev pub Exact : Leaf → ℕ → List ℕ → Type 0
