@@ -1,6 +1,6 @@
 -- What an append answers and leaves, where its plan refuses nothing: the items are put into the lent tail, behind the bytes that were moved.
 use mathlib.Core.List.{List, ◌++◌, append_assoc}
-use mathlib.Core.Path.{◌≡◌, ap, subst, sym, ◌∙◌}
+use mathlib.Core.Path.{◌≡◌, ap, sym, ◌∙◌}
 use Prim.Native.Nat.{ℕ, ◌+◌, ◌-◌, ◌^◌}
 use native.Mathlib.Omega.{arith}
 use lib.ListN.{length, drop, take, length-append, length-drop}
@@ -12,14 +12,7 @@ use Rattle.rules.proofs.Laws.Places.{part_rest}
 use Rattle.rules.specs.declared.Refusal.{Refusal}
 use Rattle.rules.specs.declared.Written.TheVariants.{Bytes as wrote_bytes, Refused as not_written}
 use Rattle.encode_append.proofs.Moving.{behind_front}
-use Rattle.encode_append.specs.declared.Plan.{Plan}
-use Rattle.encode_append.specs.declared.Plan.TheVariants.{Join as joining}
-use Rattle.encode_append.specs.Joins.{bytes_of, Joins, Plans}
-
--- a plan that joins is what it says
-pub planned_joins : (tb buf : List ℕ) (used k : ℕ) (cs : List ℕ) (p : Plan) (count old new items : ℕ) → p ≡ joining count old new items → Plans tb buf used k cs p
-    → Joins tb buf used k cs count old new items
-planned_joins tb buf used k cs p count old new items e h = subst (Plans tb buf used k cs) e h
+use Rattle.encode_append.specs.Joins.{bytes_of, Joins}
 
 pub refused_leaves : (o : Output) (buf : List ℕ) (y : Refusal) → o ≡ not y → (not_written y ≡ written_of o) × (buf ≡ output_after o buf)
 refused_leaves o buf y e = (sym (ap written_of e), sym (ap (λ x. output_after x buf) e))

@@ -38,11 +38,9 @@ loop-left-smaller c = omega arith
 
 pub loop-left-preserved : goal.loop-left-preserved
 loop-left-preserved c =
-    let i = c in
-    let l = i.loop-left in
-    let s = i in (
+    let l = c.loop-left in (
       omega arith,
-      gathered_step 8 _ _ 64 _ s.args.cells.now _ _ (omega arith) s.requires.0 i.loop-left-test.true l.invariant.0 l.invariant.1 c.bit.ensures,
+      gathered_step 8 _ _ 64 _ c.args.cells.now _ _ (omega arith) c.requires.0 c.loop-left-test.true l.invariant.0 l.invariant.1 c.bit.ensures,
     )
 
 pub overflow_cast-result : goal.overflow_cast-result

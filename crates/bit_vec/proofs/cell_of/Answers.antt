@@ -39,11 +39,9 @@ loop-left-smaller c = omega arith
 
 pub loop-left-preserved : goal.loop-left-preserved
 loop-left-preserved c =
-    let i = c in
-    let l = i.loop-left in
-    let s = i in (
+    let l = c.loop-left in (
       omega arith,
-      gathered_step 64 _ _ 8 _ s.args.s.now _ _ (omega arith) s.requires.0 i.loop-left-test.true l.invariant.0 l.invariant.1 c.bit.ensures,
+      gathered_step 64 _ _ 8 _ c.args.s.now _ _ (omega arith) c.requires.0 c.loop-left-test.true l.invariant.0 l.invariant.1 c.bit.ensures,
     )
 
 pub returns : goal.returns

@@ -13,9 +13,8 @@ use Rattle.bit_vec.proofs.clear.Goals as goal
 pub returns-then-lesser-whole : goal.returns-then-lesser-whole
 unfolding clear_cells
 returns-then-lesser-whole c =
-    let k = c in
-    let a = k.args in
-    sym (clear_whole 64 a.n (words64 a.n) a.cells.now (λ i. (k.shared_slice_known-1.given i).fits) (omega arith))
+    let a = c.args in
+    sym (clear_whole 64 a.n (words64 a.n) a.cells.now (λ i. (c.shared_slice_known-1.given i).fits) (omega arith))
 
 pub returns : goal.returns
 unfolding clear_cells

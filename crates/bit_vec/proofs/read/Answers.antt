@@ -29,13 +29,11 @@ store_cells-requires c = rw (length-take-le _ _ c.if-s-used.false) (omega arith)
 pub returns-clause-answers : goal.returns-clause-answers
 unfolding bits_read cells_read lanes_from lanes_in
 returns-clause-answers c =
-    let b = c in
-    let a = b.args in
-    rw (whole_there (words8 a.n) _ a.s.now (lanes_in a.n a.start) (omega arith), ← b.bytes_for-used.ensures) refl
+    let a = c.args in
+    rw (whole_there (words8 a.n) _ a.s.now (lanes_in a.n a.start) (omega arith), ← c.bytes_for-used.ensures) refl
 
 pub returns-clause-writes : goal.returns-clause-writes
 unfolding bits_read cells_read lanes_from lanes_in
 returns-clause-writes c =
-    let b = c in
-    let a = b.args in
-    rw (whole_there (words8 a.n) _ a.s.now (lanes_in a.n a.start) (omega arith), ← b.bytes_for-used.ensures) c.store_cells.ensures
+    let a = c.args in
+    rw (whole_there (words8 a.n) _ a.s.now (lanes_in a.n a.start) (omega arith), ← c.bytes_for-used.ensures) c.store_cells.ensures

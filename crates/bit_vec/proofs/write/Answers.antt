@@ -30,13 +30,11 @@ store_bytes-requires c = rw (length-take-le _ _ c.if-cells-used.false) (omega ar
 pub returns-clause-answers : goal.returns-clause-answers
 unfolding bits_written bytes_written
 returns-clause-answers c =
-    let b = c in
-    let a = b.args in
+    let a = c.args in
     rw (le-ltb (length a.cells.now) (words64 a.n) (omega arith)) (ap Bytes c.bytes_for.ensures)
 
 pub returns-clause-writes : goal.returns-clause-writes
 unfolding bits_written bytes_written
 returns-clause-writes c =
-    let b = c in
-    let a = b.args in
-    rw (le-ltb (length a.cells.now) (words64 a.n) (omega arith), ← b.cells_for-used.ensures) c.store_bytes.ensures
+    let a = c.args in
+    rw (le-ltb (length a.cells.now) (words64 a.n) (omega arith), ← c.cells_for-used.ensures) c.store_bytes.ensures

@@ -7,5 +7,4 @@ use Rattle.compact.proofs.joined.Goals as goal
 
 pub returns : goal.returns
 returns c =
-    let start = c in
-    ap (λ (x : ℕ). x / 4) (shifted_in _ _ _ _ start.requires.0 (λ i. (c.shared_slice_known-1.given i).fits) (one_word start.args.n _ _ c.word.ensures (omega arith)) start.ranges.b.fits)
+    ap (λ (x : ℕ). x / 4) (shifted_in _ _ _ _ c.requires.0 (λ i. (c.shared_slice_known-1.given i).fits) (one_word c.args.n _ _ c.word.ensures (omega arith)) c.ranges.b.fits)

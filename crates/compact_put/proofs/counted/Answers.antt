@@ -11,8 +11,6 @@ overflow_sub-out c = omega (arith, significant_4 (whole c.args.low c.args.high) 
 
 pub returns : goal.returns
 returns c =
-    let put = c in
-    let start = put in
-    let low = start.ranges.low.fits in
-    counted_is _ _ _ _ put.significant-n.ensures start.requires low start.ranges.high.fits
-    (two_puts 1 8 _ _ _ _ _ low put.put.ensures c.put-2.ensures)
+    let low = c.ranges.low.fits in
+    counted_is _ _ _ _ c.significant-n.ensures c.requires low c.ranges.high.fits
+    (two_puts 1 8 _ _ _ _ _ low c.put.ensures c.put-2.ensures)

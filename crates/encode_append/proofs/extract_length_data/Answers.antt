@@ -14,11 +14,9 @@ counted-requires-in-Value c =
 
 pub returns-in-Value : goal.returns-in-Value
 returns-in-Value c =
-    let s = c in
     c.counted-in-Value.ensures
-    ∙ ap (lengths_of s.args.k) (sym (count_read s.args.s.now c.if-s-eq0.false _ c.read.ensures _ _ _ c.in-Value.is))
+    ∙ ap (lengths_of c.args.k) (sym (count_read c.args.s.now c.if-s-eq0.false _ c.read.ensures _ _ _ c.in-Value.is))
 
 pub returns-in_default : goal.returns-in_default
 returns-in_default c =
-    let s = c in
-    count_unread s.args.s.now c.if-s-eq0.false _ c.read.ensures s.args.k _ c.because.ensures (opened c.in_default.in_default-own.keys2)
+    count_unread c.args.s.now c.if-s-eq0.false _ c.read.ensures c.args.k _ c.because.ensures (opened c.in_default.in_default-own.keys2)

@@ -11,6 +11,5 @@ shift_up-requires c = (c.requires.grows, c.requires.room)
 
 pub returns : goal.returns
 returns c =
-    let s = c in
-    replaced s.args.buf.now _ _ (compact_bytes s.args.count) s.args.used s.args.old s.args.new s.requires.there s.requires.head s.requires.long s.requires.room
-    c.shift_up.ensures (head_put s.args.count _ _ c.put.ensures.writes)
+    replaced c.args.buf.now _ _ (compact_bytes c.args.count) c.args.used c.args.old c.args.new c.requires.there c.requires.head c.requires.long c.requires.room
+    c.shift_up.ensures (head_put c.args.count _ _ c.put.ensures.writes)

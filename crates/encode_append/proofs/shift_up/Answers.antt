@@ -8,10 +8,9 @@ use Rattle.encode_append.proofs.shift_up.Goals as goal
 
 pub returns-then-from-to : goal.returns-then-from-to
 returns-then-from-to c =
-    let s = c in
-    let e : s.args.from ≡ s.args.to = c.if-from-to.true in
-    sym (ap (λ x. sets s.args.buf.now s.args.to (take s.args.n (drop x s.args.buf.now))) e
-    ∙ sets_same s.args.buf.now s.args.to s.args.n s.requires.1)
+    let e : c.args.from ≡ c.args.to = c.if-from-to.true in
+    sym (ap (λ x. sets c.args.buf.now c.args.to (take c.args.n (drop x c.args.buf.now))) e
+    ∙ sets_same c.args.buf.now c.args.to c.args.n c.requires.1)
 
 pub loop-i-init : goal.loop-i-init
 loop-i-init c = (omega arith, refl, refl)

@@ -15,15 +15,15 @@ returns-then-m-t c =
 
 pub returns-then-n-eq0 : goal.returns-then-n-eq0
 returns-then-n-eq0 c =
-    let both = let z : c.args.n * (c.args.more + 1) ≡ 0 = rw c.if-n-eq0.true (omega arith) in
-    lands _ _ _ [] _ _ _ (ap (units_at _ _ _) z ∙ sym (units_none _ _ _ (omega (arith, c.if-m-t.false)))) refl refl in
+    let z : c.args.n * (c.args.more + 1) ≡ 0 = rw c.if-n-eq0.true (omega arith) in
+    let both = lands _ _ _ [] _ _ _ (ap (units_at _ _ _) z ∙ sym (units_none _ _ _ (omega (arith, c.if-m-t.false)))) refl refl in
     record { answers = both.0; writes = both.1 }
 
 pub returns-then-left-n : goal.returns-then-left-n
 returns-then-left-n c =
-    let both = let start = c.args in
+    let start = c.args in
     let full = room_ends start.n start.more c.room-left.result c.if-n-eq0.false c.if-left-n.true in
-    lands _ _ _ (zeros (start.m.limits.cells - start.m.totals.cells)) _ _ _
+    let both = lands _ _ _ (zeros (start.m.limits.cells - start.m.totals.cells)) _ _ _
     (units_stop _ _ _ _ (omega (arith, full, c.if-m-t.false, c.room-left.ensures))) c.refused-then-left-n.ensures
     (rw c.room-left.ensures at c.store_zeros.ensures) in
     record { answers = both.0; writes = both.1 }
@@ -39,9 +39,9 @@ overflow_add-result c = omega (arith, room_holds c.args.n c.args.more c.room-lef
 
 pub returns : goal.returns
 returns c =
-    let both = let start = c.args in
+    let start = c.args in
     let fits = room_holds start.n start.more c.room-left.result c.if-n-eq0.false c.if-left-n.false in
-    lands _ _ _ (zeros (start.n * (start.more + 1))) _ _ _
+    let both = lands _ _ _ (zeros (start.n * (start.more + 1))) _ _ _
     (units_fit _ _ _ _ (omega (arith, fits, c.room-left.ensures, c.if-m-t.false))) refl
     c.store_zeros-2.ensures in
     record { answers = both.0; writes = both.1 }

@@ -8,8 +8,6 @@ use Rattle.rules.proofs.Laws.Places.{sets_out}
 use Rattle.meter.proofs.Stores.{zeros_next}
 use Rattle.meter.proofs.store_zeros.Goals as goal
 
--- `store_zeros` meets its contract: what is left to write gives the whole. Assumes nothing.
-
 pub loop-left-init : goal.loop-left-init
 loop-left-init c = (refl, refl)
 

@@ -1,3 +1,4 @@
+-- `store_zeros` meets its contract: what is left to write gives the whole. Assumes nothing.
 use mathlib.Core.Path.{◌≡◌}
 use lib.ListN.{length}
 use lib.Seq.{sets}

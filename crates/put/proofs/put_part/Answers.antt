@@ -30,6 +30,6 @@ returns-in-Refused-measure_root c =
 
 pub returns-else-out-used : goal.returns-else-out-used
 returns-else-out-used c =
-    let both = let e = sym c.check.ensures ∙ c.in-Fine.is in
-    put_whole _ _ _ _ _ (measured _ _ _ _ e c.measure_root.ensures) _ _ c.in-Done.is c.if-taken-cells.false e _ c.if-out-used.false c.put_root.ensures.writes in
+    let e = sym c.check.ensures ∙ c.in-Fine.is in
+    let both = put_whole _ _ _ _ _ (measured _ _ _ _ e c.measure_root.ensures) _ _ c.in-Done.is c.if-taken-cells.false e _ c.if-out-used.false c.put_root.ensures.writes in
     record { answers = both.0; writes = both.1 }

@@ -7,10 +7,7 @@ use Rattle.report.proofs.put_done.Goals as goal
 pub returns : goal.returns
 unfolding ok_line
 returns c =
-    let second = c in
-    let first = second in
-    let word = first in
-    let n = word.args.used in
-    let u = word.args.totals in
-    let two = then_two ok n u.cells 32 word.put-word.ensures first.put_two-next.ensures.puts in
-    then (then_two ((ok ++ spaced n) ++ spaced u.cells) u.charge u.depth 10 two second.put_two-end.ensures.puts) c.put_cells.ensures
+    let n = c.args.used in
+    let u = c.args.totals in
+    let two = then_two ok n u.cells 32 c.put-word.ensures c.put_two-next.ensures.puts in
+    then (then_two ((ok ++ spaced n) ++ spaced u.cells) u.charge u.depth 10 two c.put_two-end.ensures.puts) c.put_cells.ensures

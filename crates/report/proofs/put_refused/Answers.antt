@@ -6,6 +6,5 @@ use Rattle.report.proofs.put_refused.Goals as goal
 pub returns : goal.returns
 unfolding refused_line
 returns c =
-    let word = c in
-    let a = word.args in
-    then_two refused a.number a.place 10 word.put-word.ensures c.put_two.ensures.puts
+    let a = c.args in
+    then_two refused a.number a.place 10 c.put-word.ensures c.put_two.ensures.puts

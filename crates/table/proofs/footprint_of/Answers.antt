@@ -1,5 +1,4 @@
 -- `footprint_of` meets its contract: each arm fixes the node, and sums and products of small footprints fit. Assumes nothing.
-use Prim.Native.Nat.{◌+◌, ◌<◌, ◌^◌}
 use native.Mathlib.Omega.{arith}
 use Rattle.table.specs.Nodes.{foot_over}
 use Rattle.table.specs.Laws.{product_fits}
@@ -9,14 +8,10 @@ pub overflow_add-result : goal.overflow_add-result
 overflow_add-result c = omega (arith, c.number_at.ensures, c.requires.0 c.in-Option.a)
 
 pub overflow_add-result-in-Result : goal.overflow_add-result-in-Result
-overflow_add-result-in-Result c =
-    let both : c.number_at-in-Result.result + c.number_at-in-Result-2.result < 2 ^ 32 = omega (arith, c.number_at-in-Result.ensures, c.number_at-in-Result-2.ensures, c.requires.0 c.in-Result.a, c.requires.0 c.in-Result.b) in
-    omega (arith, both)
+overflow_add-result-in-Result c = omega (arith, c.number_at-in-Result.ensures, c.number_at-in-Result-2.ensures, c.requires.0 c.in-Result.a, c.requires.0 c.in-Result.b)
 
 pub overflow_add-result-in-Result-2 : goal.overflow_add-result-in-Result-2
-overflow_add-result-in-Result-2 c =
-    let both : c.number_at-in-Result.result + c.number_at-in-Result-2.result < 2 ^ 32 = omega (arith, c.number_at-in-Result.ensures, c.number_at-in-Result-2.ensures, c.requires.0 c.in-Result.a, c.requires.0 c.in-Result.b) in
-    omega (arith, both)
+overflow_add-result-in-Result-2 c = omega (arith, c.number_at-in-Result.ensures, c.number_at-in-Result-2.ensures, c.requires.0 c.in-Result.a, c.requires.0 c.in-Result.b)
 
 pub overflow_add-result-in-Pair : goal.overflow_add-result-in-Pair
 overflow_add-result-in-Pair c = omega (arith, c.number_at-in-Pair.ensures, c.number_at-in-Pair-2.ensures, c.requires.0 c.in-Pair.a, c.requires.0 c.in-Pair.b)

@@ -305,5 +305,3 @@ pub put_items-returns : goal.put_items-returns
 put_items-returns t c =
     let both = loop_done c.loop-left.invariant (omega arith) in
     record { answers = both.0; writes = both.1 }
-
--- ---- all of them

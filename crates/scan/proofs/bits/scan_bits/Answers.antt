@@ -43,20 +43,20 @@ returns-in-Refused c =
 
 pub returns-in-Refused-enter : goal.returns-in-Refused-enter
 returns-in-Refused-enter c =
-    let both = let g = count_got _ _ _ _ c.count_from.ensures c.in-Of.is in
+    let g = count_got _ _ _ _ c.count_from.ensures c.in-Of.is in
     let a = c.args in
-    head_stops _ _ _ _ a.m.totals 0 _ _ _ (c.enter.ensures.answers, c.enter.ensures.writes) _ c.in-Refused-enter.is
+    let both = head_stops _ _ _ _ a.m.totals 0 _ _ _ (c.enter.ensures.answers, c.enter.ensures.writes) _ c.in-Refused-enter.is
     (lanes_at a.m.limits c.in-Of.n a.at a.s.now (a.at + c.in-Of.used)) _ (bits_few _ _ _ _ _ _ _ g c.if-n-gt-MAX_BITS.false) in
     record { answers = both.0; writes = both.1 }
 
 pub returns-in-Done : goal.returns-in-Done
 returns-in-Done c =
-    let both = let g = count_got _ _ _ _ c.count_from.ensures c.in-Of.is in
+    let g = count_got _ _ _ _ c.count_from.ensures c.in-Of.is in
     let a = c.args in
     let n = c.in-Of.n in
     let used = c.in-Of.used in
     let u = c.in-Done.t in
-    let E = head_enters _ _ _ _ _ _ _ _ _ (c.enter.ensures.answers, c.enter.ensures.writes) c.in-Done.is in
+    let both = let E = head_enters _ _ _ _ _ _ _ _ _ (c.enter.ensures.answers, c.enter.ensures.writes) c.in-Done.is in
     head_goes _ _ _ _ _ _ _ _ _ (c.enter.ensures.answers, c.enter.ensures.writes) c.in-Done.is
     (lanes_at a.m.limits n a.at a.s.now (a.at + used)) _ _ _ (bits_few _ _ _ _ _ _ _ g c.if-n-gt-MAX_BITS.false)
     (lanes_land a.m.limits n a.at used _ a.s.now u _ _ _ (omega (arith, E.lets.2, ap (λ (x : Totals). x.cells) E.totals)) E.place (c.scan_lanes.ensures.answers, c.scan_lanes.ensures.writes)) in

@@ -319,5 +319,3 @@ pub scan_items-returns : goal.scan_items-returns
 scan_items-returns t c =
     let both = loop_done _ c.loop-left.invariant c.loop-left-test.false in
     record { answers = both.0; writes = both.1 }
-
--- ---- all of them
