@@ -1,4 +1,5 @@
 -- The public readings: from the walk to the jobs.
+use Rattle.std.specs.Prelude.{Ok, Err}
 use mathlib.Core.List.{List, []}
 use mathlib.Core.Path.{◌≡◌, ap, sym, ◌∙◌, subst}
 use Prim.Native.Nat.{ℕ, ◌≤◌, ◌<◌}
@@ -16,29 +17,28 @@ use Rattle.rules.specs.Scan.{scanned, filling}
 use Rattle.rules.specs.Table.{root, after_check}
 use Rattle.rules.specs.declared.Limits.{Limits}
 use Rattle.rules.specs.declared.Refusal.{Refusal}
-use Rattle.rules.specs.declared.Scan.{Scan}
-use Rattle.rules.specs.declared.Scan.TheVariants.{Done as done, Refused as stopped}
+use Rattle.rules.specs.Scan.{Scan}
 use Rattle.rules.specs.declared.Totals.{Totals}
 use Rattle.scan.specs.Walk.{passed_in}
 
-pub fills_stopped : (s : List ℕ) (a : Scan) (y : Refusal) → a ≡ stopped y → stopped y ≡ filling s a
+pub fills_stopped : (s : List ℕ) (a : Scan) (y : Refusal) → a ≡ Err y → Err y ≡ filling s a
 unfolding filling
 fills_stopped s a y e = ap (filling s) (sym e)
 
-pub fills_left : (s : List ℕ) (a r : Scan) (t : Totals) (n : ℕ) → a ≡ done t n → n < length s → r ≡ stopped (bytes_left_at n) → r ≡ filling s a
+pub fills_left : (s : List ℕ) (a r : Scan) (t : Totals) (n : ℕ) → a ≡ Ok (t, n) → n < length s → r ≡ Err (bytes_left_at n) → r ≡ filling s a
 unfolding filling
-fills_left s a r t n e h q = q ∙ ap (λ b. pick b (stopped (bytes_left_at n)) (done t n)) (sym (lt-ltb n (length s) h)) ∙ ap (filling s) (sym e)
+fills_left s a r t n e h q = q ∙ ap (λ b. pick b (Err (bytes_left_at n)) (Ok (t, n))) (sym (lt-ltb n (length s) h)) ∙ ap (filling s) (sym e)
 
-pub fills_all : (s : List ℕ) (a : Scan) (t : Totals) (n : ℕ) → a ≡ done t n → length s ≤ n → done t n ≡ filling s a
+pub fills_all : (s : List ℕ) (a : Scan) (t : Totals) (n : ℕ) → a ≡ Ok (t, n) → length s ≤ n → Ok (t, n) ≡ filling s a
 unfolding filling
-fills_all s a t n e h = ap (λ b. pick b (stopped (bytes_left_at n)) (done t n)) (sym (le-ltb n (length s) h)) ∙ ap (filling s) (sym e)
+fills_all s a t n e h = ap (λ b. pick b (Err (bytes_left_at n)) (Ok (t, n))) (sym (le-ltb n (length s) h)) ∙ ap (filling s) (sym e)
 
 -- the lent cells, where an answer was decided
-pub fill_none : (new l : List ℕ) (a : Scan) (y : Refusal) → a ≡ stopped y → (stopped y ≡ a) × (l ≡ cells_after new a l)
+pub fill_none : (new l : List ℕ) (a : Scan) (y : Refusal) → a ≡ Err y → (Err y ≡ a) × (l ≡ cells_after new a l)
 fill_none new l a y e = (sym e, sym (ap (λ (x : Scan). cells_after new x l) e))
 
-pub fill_done : (tb s l m : List ℕ) (lim : Limits) (a : Scan) (u : Totals) (n : ℕ) → Decided tb s lim a → lim.cells ≤ length l → a ≡ done u n → m ≡ sets l 0 (passed_in tb lim s)
-    → (done u n ≡ a) × (m ≡ cells_after (scanned (root tb) lim s) a l)
+pub fill_done : (tb s l m : List ℕ) (lim : Limits) (a : Scan) (u : Totals) (n : ℕ) → Decided tb s lim a → lim.cells ≤ length l → a ≡ Ok (u, n) → m ≡ sets l 0 (passed_in tb lim s)
+    → (Ok (u, n) ≡ a) × (m ≡ cells_after (scanned (root tb) lim s) a l)
 unfolding passed_in
 fill_done tb s l m lim a u n d h e f =
     let D = d u n e in

@@ -1,5 +1,5 @@
 -- Demands 1 and 3 about the public functions' own answers: r is any answer that the contract allows, and m what the lent cells l are afterwards.
-use Rattle.std.specs.Prelude.{Bool, true, false, List, ◌++◌, ◌⊎◌, ◌≡◌, refl, ℕ, ◌^◌, ◌≤◌, ◌<◌, ltb, length}
+use Rattle.std.specs.Prelude.{Bool, true, false, List, ◌++◌, ◌⊎◌, ◌≡◌, refl, ℕ, ◌^◌, ◌≤◌, ◌<◌, ltb, length, Ok, Err}
 use Rattle.std.proofs.Common.{inl, inr, ◌∙◌, subst, arith, ltb-true, lt-ltb}
 use Rattle.std.proofs.Math.Logic.{⊎_elim}
 use Rattle.std.proofs.Math.Path.{ap, sym}
@@ -8,7 +8,7 @@ use Rattle.rules.specs.Cells.{cells}
 use Rattle.rules.specs.Demands.{Decided}
 use Rattle.rules.proofs.Laws.Demands.{front_accepts, front_accepted, front_cells, whole_accepts, whole_accepted, front_wider, whole_wider, cut_wider, front_grown, front_decided, whole_decided, whole_fills}
 use Rattle.rules.specs.Jobs.{read_front, read_whole, cut_to, cells_after, read_fields}
-use Rattle.rules.specs.Refusals.{bytes_left_at}
+use Rattle.rules.specs.Refusals.{bytes_left_at, number_of}
 use Rattle.rules.specs.Scan.{scan, scanned, filling}
 use Rattle.rules.specs.Scan.Accept.{Accepted, answer}
 use Rattle.rules.proofs.Laws.Scan.Accept.{passed}
@@ -21,12 +21,10 @@ use Rattle.rules.specs.Table.{root, check_table, after_check}
 use Rattle.rules.specs.Table.Laws.{Good}
 use Rattle.rules.specs.Totals.{nesting, charge}
 use Rattle.rules.specs.Types.{Val}
-use Rattle.rules.specs.declared.Check.{Check}
-use Rattle.rules.specs.declared.Check.TheVariants.{Fine as fine, Refused as wrong}
+use Rattle.rules.specs.Table.{Check}
 use Rattle.rules.specs.declared.Limits.{Limits}
 use Rattle.rules.specs.declared.Refusal.{Refusal}
-use Rattle.rules.specs.declared.Scan.{Scan}
-use Rattle.rules.specs.declared.Scan.TheVariants.{Done as done, Refused as stopped}
+use Rattle.rules.specs.Scan.{Scan}
 use Rattle.rules.specs.declared.Totals.{Totals}
 
 -- ---- into lent cells
@@ -44,21 +42,21 @@ one_reading f tb s lim l r r' m m' c d =
     (e, c.writes ∙ ap (λ x. cells_after (scanned (root tb) (cut_to (length l) lim) s) x l) e ∙ sym d.writes)
 
 -- DEMAND 1: a refusal leaves the lent cells as they were
-pub refusal_leaves : (f : List ℕ → List ℕ → Limits → Scan) (tb s : List ℕ) (lim : Limits) (l : List ℕ) (r : Scan) (m : List ℕ) (y : Refusal) → Contract f tb s lim l r m → r ≡ stopped y → m ≡ l
+pub refusal_leaves : (f : List ℕ → List ℕ → Limits → Scan) (tb s : List ℕ) (lim : Limits) (l : List ℕ) (r : Scan) (m : List ℕ) (y : Refusal) → Contract f tb s lim l r m → r ≡ Err y → m ≡ l
 refusal_leaves f tb s lim l r m y c e = c.writes ∙ ap (λ x. cells_after (scanned (root tb) (cut_to (length l) lim) s) x l) e
 
 -- .. and has number and place, with 0 in every other field
-pub refusal_fields : (f : List ℕ → List ℕ → Limits → Scan) (tb s : List ℕ) (lim : Limits) (l : List ℕ) (r : Scan) (m : List ℕ) (y : Refusal) → Contract f tb s lim l r m → r ≡ stopped y
-    → read_fields r ≡ record { number = y.number; place = y.place; bytes = 0; cells = 0; charge = 0; depth = 0 }
+pub refusal_fields : (f : List ℕ → List ℕ → Limits → Scan) (tb s : List ℕ) (lim : Limits) (l : List ℕ) (r : Scan) (m : List ℕ) (y : Refusal) → Contract f tb s lim l r m → r ≡ Err y
+    → read_fields r ≡ record { number = number_of y.reason; place = y.place; bytes = 0; cells = 0; charge = 0; depth = 0 }
 refusal_fields f tb s lim l r m y c e = ap read_fields e
 
 module _ (tb s : List ℕ) (lim : Limits) (l : List ℕ) (r : Scan) (m : List ℕ) (M : lim.memory < 2 ^ 64) where
   -- DEMAND 3: accepted exactly if ..; then the value's cells stand at the front of the lent ones, and the others stay
   pub read_accepts : Contract read_front tb s lim l r m → Good tb → (v : Val (root tb)) (n : ℕ) → Accepted (root tb) (cut_to (length l) lim) s v n
-      → (r ≡ done (answer (root tb) v) n) × (m ≡ onto (cells (root tb) v) l)
+      → (r ≡ Ok (answer (root tb) v, n)) × (m ≡ onto (cells (root tb) v) l)
   read_accepts c g v n a =
-      let e : read_front tb s (cut_to (length l) lim) ≡ done (answer (root tb) v) n = front_accepts tb s (cut_to (length l) lim) M g v n a in
-      let q : r ≡ done (answer (root tb) v) n = c.answers ∙ e in
+      let e : read_front tb s (cut_to (length l) lim) ≡ Ok (answer (root tb) v, n) = front_accepts tb s (cut_to (length l) lim) M g v n a in
+      let q : r ≡ Ok (answer (root tb) v, n) = c.answers ∙ e in
       (q, c.writes ∙ ap (λ x. cells_after (scanned (root tb) (cut_to (length l) lim) s) x l) q ∙ ap (λ x. onto x l) (front_cells tb s (cut_to (length l) lim) (answer (root tb) v) n v n e a.reads))
 
   -- the whole value's bytes, cells, charge and nesting stand in the answer
@@ -66,7 +64,7 @@ module _ (tb s : List ℕ) (lim : Limits) (l : List ℕ) (r : Scan) (m : List �
       → read_fields r ≡ record { number = 0; place = 0; bytes = n; cells = length (cells (root tb) v); charge = charge (root tb) v; depth = nesting (root tb) v }
   read_fields_lem c g v n a = ap read_fields (read_accepts c g v n a).0
 
-  pub read_accepted : Contract read_front tb s lim l r m → (u : Totals) (n : ℕ) → r ≡ done u n
+  pub read_accepted : Contract read_front tb s lim l r m → (u : Totals) (n : ℕ) → r ≡ Ok (u, n)
       → Good tb × ((v : Val (root tb)) × Accepted (root tb) (cut_to (length l) lim) s v n × (u ≡ answer (root tb) v) × (m ≡ onto (cells (root tb) v) l))
   read_accepted c u n e =
       let q = front_accepted tb s (cut_to (length l) lim) M u n (sym c.answers ∙ e) in
@@ -75,76 +73,76 @@ module _ (tb s : List ℕ) (lim : Limits) (l : List ℕ) (r : Scan) (m : List �
 
   -- the same of a whole message
   pub whole_read_accepts : Contract read_whole tb s lim l r m → Good tb → (v : Val (root tb)) → Accepted (root tb) (cut_to (length l) lim) s v (length s)
-      → (r ≡ done (answer (root tb) v) (length s)) × (m ≡ onto (cells (root tb) v) l)
+      → (r ≡ Ok (answer (root tb) v, length s)) × (m ≡ onto (cells (root tb) v) l)
   whole_read_accepts c g v a =
-      let e : read_whole tb s (cut_to (length l) lim) ≡ done (answer (root tb) v) (length s) = whole_accepts tb s (cut_to (length l) lim) M g v a in
-      let q : r ≡ done (answer (root tb) v) (length s) = c.answers ∙ e in
-      let d : scan (root tb) (cut_to (length l) lim) s ≡ done (answer (root tb) v) (length s) = (whole_decided tb s (cut_to (length l) lim) (answer (root tb) v) (length s) e).1 in (
+      let e : read_whole tb s (cut_to (length l) lim) ≡ Ok (answer (root tb) v, length s) = whole_accepts tb s (cut_to (length l) lim) M g v a in
+      let q : r ≡ Ok (answer (root tb) v, length s) = c.answers ∙ e in
+      let d : scan (root tb) (cut_to (length l) lim) s ≡ Ok (answer (root tb) v, length s) = (whole_decided tb s (cut_to (length l) lim) (answer (root tb) v) (length s) e).1 in (
         q,
         c.writes ∙ ap (λ x. cells_after (scanned (root tb) (cut_to (length l) lim) s) x l) q
             ∙ ap (λ x. onto x l) (passed (root tb) (cut_to (length l) lim) s v (answer (root tb) v) (length s) (length s) a.reads d),
       )
 
-  pub whole_read_accepted : Contract read_whole tb s lim l r m → (u : Totals) (n : ℕ) → r ≡ done u n
+  pub whole_read_accepted : Contract read_whole tb s lim l r m → (u : Totals) (n : ℕ) → r ≡ Ok (u, n)
       → Good tb × ((v : Val (root tb)) × Accepted (root tb) (cut_to (length l) lim) s v (length s) × (u ≡ answer (root tb) v) × (n ≡ length s) × (m ≡ onto (cells (root tb) v) l))
   whole_read_accepted c u n e =
       let w = whole_accepted tb s (cut_to (length l) lim) M u n (sym c.answers ∙ e) in
       let v = w.1.0 in
-      let d : scan (root tb) (cut_to (length l) lim) s ≡ done u n = (whole_decided tb s (cut_to (length l) lim) u n (sym c.answers ∙ e)).1 in
+      let d : scan (root tb) (cut_to (length l) lim) s ≡ Ok (u, n) = (whole_decided tb s (cut_to (length l) lim) u n (sym c.answers ∙ e)).1 in
       let k : m ≡ onto (scanned (root tb) (cut_to (length l) lim) s) l = c.writes ∙ ap (λ x. cells_after (scanned (root tb) (cut_to (length l) lim) s) x l) e in
       (w.0, (v, w.1.1, w.1.2, w.1.3, k ∙ ap (λ x. onto x l) (passed (root tb) (cut_to (length l) lim) s v u (length s) n w.1.1.reads d)))
 
 -- why a front read is refused, both ways: by the table's check, or in the message, by a limit or by the written rule (`Scan.Refuse.Refuses`), whose number and place it then has
 pub data Why (tb s : List ℕ) (lim : Limits) (y : Refusal) : Type 0 where
-  by_table : check_table tb ≡ wrong y → Why tb s lim y
+  by_table : check_table tb ≡ Err y → Why tb s lim y
   in_message : check_table tb ≡ fine → Refuses (root tb) lim s y → Why tb s lim y
 
-front_refused : (tb s : List ℕ) (lim : Limits) (y : Refusal) → read_front tb s lim ≡ stopped y → Why tb s lim y
+front_refused : (tb s : List ℕ) (lim : Limits) (y : Refusal) → read_front tb s lim ≡ Err y → Why tb s lim y
 unfolding read_front
 front_refused tb s lim y e = go (check_table tb) refl e
   where
-    go : (x : Check) → check_table tb ≡ x → after_check x stopped (scan (root tb) lim s) ≡ stopped y → Why tb s lim y
+    go : (x : Check) → check_table tb ≡ x → after_check x Err (scan (root tb) lim s) ≡ Err y → Why tb s lim y
     go fine q f = in_message q (scan_refused (root tb) lim s y f)
-    go (wrong x) q f = let j : x ≡ y = cc in by_table (q ∙ ap wrong j)
+    go (Err x) q f = let j : x ≡ y = cc in by_table (q ∙ ap Err j)
 
-front_refuses : (tb s : List ℕ) (lim : Limits) (y : Refusal) → Why tb s lim y → read_front tb s lim ≡ stopped y
+front_refuses : (tb s : List ℕ) (lim : Limits) (y : Refusal) → Why tb s lim y → read_front tb s lim ≡ Err y
 unfolding read_front
-front_refuses tb s lim y (by_table q) = ap (λ (x : Check). after_check x stopped (scan (root tb) lim s)) q
-front_refuses tb s lim y (in_message q f) = ap (λ (x : Check). after_check x stopped (scan (root tb) lim s)) q ∙ scan_refuses (root tb) lim s y f
+front_refuses tb s lim y (by_table q) = ap (λ (x : Check). after_check x Err (scan (root tb) lim s)) q
+front_refuses tb s lim y (in_message q f) = ap (λ (x : Check). after_check x Err (scan (root tb) lim s)) q ∙ scan_refuses (root tb) lim s y f
 
 -- .. and a whole read: as its front is, or by 18 where the front is accepted and bytes are left
 pub data WhyWhole (tb s : List ℕ) (lim : Limits) (y : Refusal) : Type 0 where
   at_front : Why tb s lim y → WhyWhole tb s lim y
-  by_rest : (u : Totals) (n : ℕ) → read_front tb s lim ≡ done u n → n < length s → y ≡ bytes_left_at n → WhyWhole tb s lim y
+  by_rest : (u : Totals) (n : ℕ) → read_front tb s lim ≡ Ok (u, n) → n < length s → y ≡ bytes_left_at n → WhyWhole tb s lim y
 
-filling_refused : (tb s : List ℕ) (lim : Limits) (y : Refusal) → filling s (read_front tb s lim) ≡ stopped y → WhyWhole tb s lim y
+filling_refused : (tb s : List ℕ) (lim : Limits) (y : Refusal) → filling s (read_front tb s lim) ≡ Err y → WhyWhole tb s lim y
 unfolding filling
 filling_refused tb s lim y e = go (read_front tb s lim) refl e
   where
-    left : (u : Totals) (n : ℕ) → read_front tb s lim ≡ done u n → (b : Bool) → ltb n (length s) ≡ b → pick b (stopped (bytes_left_at n)) (done u n) ≡ stopped y → WhyWhole tb s lim y
+    left : (u : Totals) (n : ℕ) → read_front tb s lim ≡ Ok (u, n) → (b : Bool) → ltb n (length s) ≡ b → pick b (Err (bytes_left_at n)) (Ok (u, n)) ≡ Err y → WhyWhole tb s lim y
     left u n q true t k = let z : bytes_left_at n ≡ y = cc in by_rest u n q (ltb-true n (length s) t) (sym z)
     left u n q false t k = absurd (let z : ◌≡◌ {A = ℕ} 0 1 = cc in omega arith)
 
-    go : (x : Scan) → read_front tb s lim ≡ x → filling s x ≡ stopped y → WhyWhole tb s lim y
-    go (done u n) q f = left u n q (ltb n (length s)) refl f
-    go (stopped x) q f = at_front (front_refused tb s lim y (q ∙ f))
+    go : (x : Scan) → read_front tb s lim ≡ x → filling s x ≡ Err y → WhyWhole tb s lim y
+    go (Ok (u, n)) q f = left u n q (ltb n (length s)) refl f
+    go (Err x) q f = at_front (front_refused tb s lim y (q ∙ f))
 
-filling_refuses : (tb s : List ℕ) (lim : Limits) (y : Refusal) → WhyWhole tb s lim y → filling s (read_front tb s lim) ≡ stopped y
+filling_refuses : (tb s : List ℕ) (lim : Limits) (y : Refusal) → WhyWhole tb s lim y → filling s (read_front tb s lim) ≡ Err y
 unfolding filling
 filling_refuses tb s lim y (at_front w) = ap (filling s) (front_refuses tb s lim y w)
 filling_refuses tb s lim y (by_rest u n q h k) = ap (filling s) q ∙ rw (lt-ltb n (length s) h, k)
 
 module _ (tb s : List ℕ) (lim : Limits) (l : List ℕ) (r : Scan) (m : List ℕ) (y : Refusal) where
-  pub read_refused : Contract read_front tb s lim l r m → r ≡ stopped y → Why tb s (cut_to (length l) lim) y
+  pub read_refused : Contract read_front tb s lim l r m → r ≡ Err y → Why tb s (cut_to (length l) lim) y
   read_refused c e = front_refused tb s (cut_to (length l) lim) y (sym c.answers ∙ e)
 
-  pub read_refuses : Contract read_front tb s lim l r m → Why tb s (cut_to (length l) lim) y → r ≡ stopped y
+  pub read_refuses : Contract read_front tb s lim l r m → Why tb s (cut_to (length l) lim) y → r ≡ Err y
   read_refuses c w = c.answers ∙ front_refuses tb s (cut_to (length l) lim) y w
 
-  pub whole_read_refused : Contract read_whole tb s lim l r m → r ≡ stopped y → WhyWhole tb s (cut_to (length l) lim) y
+  pub whole_read_refused : Contract read_whole tb s lim l r m → r ≡ Err y → WhyWhole tb s (cut_to (length l) lim) y
   whole_read_refused c e = filling_refused tb s (cut_to (length l) lim) y (sym (whole_fills tb s (cut_to (length l) lim)) ∙ sym c.answers ∙ e)
 
-  pub whole_read_refuses : Contract read_whole tb s lim l r m → WhyWhole tb s (cut_to (length l) lim) y → r ≡ stopped y
+  pub whole_read_refuses : Contract read_whole tb s lim l r m → WhyWhole tb s (cut_to (length l) lim) y → r ≡ Err y
   whole_read_refuses c w = c.answers ∙ whole_fills tb s (cut_to (length l) lim) ∙ filling_refuses tb s (cut_to (length l) lim) y w
 
 -- DEMAND 3: larger limits and more lent cells change only a refusal by a limit; what is accepted stays so, with the same totals and bytes, and the same cells are new
@@ -160,11 +158,11 @@ module _ (f : Job) (tb s : List ℕ) (lim lim' : Limits) (l l' : List ℕ) (r r'
   changes : (r ≡ r') ⊎ ByLimit r
   changes = ⊎_elim (λ e. inl (c.answers ∙ e ∙ sym d.answers)) (λ e. inr (subst ByLimit (sym c.answers) e)) g
 
-  keeps : Decided tb s (cut_to (length l) lim) (f tb s (cut_to (length l) lim)) → Wider (cut_to (length l) lim) (cut_to (length l') lim') → (u : Totals) (n : ℕ) → r ≡ done u n
-      → (r' ≡ done u n) × Same l l' m m'
+  keeps : Decided tb s (cut_to (length l) lim) (f tb s (cut_to (length l) lim)) → Wider (cut_to (length l) lim) (cut_to (length l') lim') → (u : Totals) (n : ℕ) → r ≡ Ok (u, n)
+      → (r' ≡ Ok (u, n)) × Same l l' m m'
   unfolding ByLimit
   keeps D w u n e =
-      let k : r' ≡ done u n = ⊎_elim (λ h. sym h ∙ e) (λ h. absurd (subst ByLimit e h)) changes in
+      let k : r' ≡ Ok (u, n) = ⊎_elim (λ h. sym h ∙ e) (λ h. absurd (subst ByLimit e h)) changes in
       let same = scanned_wider (cut_to (length l) lim) (cut_to (length l') lim') w (root tb) s u n (D u n (sym c.answers ∙ e)).1 in (
         k,
         (
@@ -181,14 +179,14 @@ module _ (tb s : List ℕ) (lim lim' : Limits) (l l' : List ℕ) (r r' : Scan) (
   pub read_wider : Contract read_front tb s lim l r m → Contract read_front tb s lim' l' r' m' → (r ≡ r') ⊎ ByLimit r
   read_wider c d = changes read_front tb s lim lim' l l' r r' m m' c d (front_wider tb s _ _ cut)
 
-  pub read_kept : Contract read_front tb s lim l r m → Contract read_front tb s lim' l' r' m' → (u : Totals) (n : ℕ) → r ≡ done u n → (r' ≡ done u n) × Same l l' m m'
+  pub read_kept : Contract read_front tb s lim l r m → Contract read_front tb s lim' l' r' m' → (u : Totals) (n : ℕ) → r ≡ Ok (u, n) → (r' ≡ Ok (u, n)) × Same l l' m m'
   read_kept c d = keeps read_front tb s lim lim' l l' r r' m m' c d (front_wider tb s _ _ cut) (front_decided tb s _) cut
 
   -- of a whole message
   pub whole_read_wider : Contract read_whole tb s lim l r m → Contract read_whole tb s lim' l' r' m' → (r ≡ r') ⊎ ByLimit r
   whole_read_wider c d = changes read_whole tb s lim lim' l l' r r' m m' c d (whole_wider tb s _ _ cut)
 
-  pub whole_read_kept : Contract read_whole tb s lim l r m → Contract read_whole tb s lim' l' r' m' → (u : Totals) (n : ℕ) → r ≡ done u n → (r' ≡ done u n) × Same l l' m m'
+  pub whole_read_kept : Contract read_whole tb s lim l r m → Contract read_whole tb s lim' l' r' m' → (u : Totals) (n : ℕ) → r ≡ Ok (u, n) → (r' ≡ Ok (u, n)) × Same l l' m m'
   whole_read_kept c d = keeps read_whole tb s lim lim' l l' r r' m m' c d (whole_wider tb s _ _ cut) (whole_decided tb s _) cut
 
 -- DEMAND 3: added bytes change only a refusal as short; what is accepted stays so, cells and all
@@ -196,10 +194,10 @@ module _ (tb s x : List ℕ) (lim : Limits) (l : List ℕ) (r r' : Scan) (m m' :
   pub read_grown : (r ≡ r') ⊎ Short r
   read_grown = ⊎_elim (λ e. inl (c.answers ∙ e ∙ sym d.answers)) (λ e. inr (subst Short (sym c.answers) e)) (front_grown tb s x (cut_to (length l) lim))
 
-  pub read_grown_kept : (u : Totals) (n : ℕ) → r ≡ done u n → (r' ≡ done u n) × (m' ≡ m)
+  pub read_grown_kept : (u : Totals) (n : ℕ) → r ≡ Ok (u, n) → (r' ≡ Ok (u, n)) × (m' ≡ m)
   read_grown_kept u n e =
-      let never : Short (done u n) → r' ≡ done u n = λ h. absurd (let z : ◌≡◌ {A = ℕ} 0 1 = cc h.2 in omega arith) in
-      let k : r' ≡ done u n = ⊎_elim (λ h. sym h ∙ e) (λ h. never (subst Short e h)) read_grown in
+      let never : Short (Ok (u, n)) → r' ≡ Ok (u, n) = λ h. absurd (let z : ◌≡◌ {A = ℕ} 0 1 = cc h.2 in omega arith) in
+      let k : r' ≡ Ok (u, n) = ⊎_elim (λ h. sym h ∙ e) (λ h. never (subst Short e h)) read_grown in
       let same = scanned_grown (root tb) (cut_to (length l) lim) s x u n (front_decided tb s (cut_to (length l) lim) u n (sym c.answers ∙ e)).1 in (
         k,
         d.writes ∙ ap (λ y. cells_after (scanned (root tb) (cut_to (length l) lim) (s ++ x)) y l) k ∙ ap (λ y. onto y l) (sym same)

@@ -1,4 +1,5 @@
 -- The answer of a write, from how far it got.
+use Rattle.std.specs.Prelude.{Ok, Err}
 use mathlib.Core.Bool.{Bool, true, false}
 use mathlib.Core.List.{List}
 use mathlib.Core.Path.{◌≡◌, refl, ap, sym, ◌∙◌, ap₂}
@@ -12,11 +13,9 @@ use Rattle.rules.specs.Jobs.{wrote, not, put_out, written_of}
 use Rattle.rules.specs.Parser.{Res, got, bad}
 use Rattle.rules.specs.Put.{put_of}
 use Rattle.rules.specs.Refusals.{output_small, cells_left_at}
-use Rattle.rules.specs.declared.Put.{Put}
-use Rattle.rules.specs.declared.Put.TheVariants.{Done as put_done, Refused as put_not}
+use Rattle.rules.specs.Put.{Put}
 use Rattle.rules.specs.declared.Refusal.{Refusal}
-use Rattle.rules.specs.declared.Written.{Written}
-use Rattle.rules.specs.declared.Written.TheVariants.{Bytes as wrote_bytes, Refused as not_written}
+use Rattle.rules.specs.Jobs.{Written}
 use Rattle.put.specs.Laws.{part_in_lem}
 use Rattle.put.specs.Written.{part_in, part_out}
 use Rattle.put.specs.declared.Part.{Part}
@@ -28,9 +27,9 @@ unfolding settled_of put_of put_out
 settled_put given room (got l n) =
     let a : 0 + n ≡ n = omega arith in
     let b : 0 + length l ≡ length l = omega arith in
-    ap₂ (λ x y. settled_of given room (put_done x y)) a b ∙ go (ltb n given) (ltb room (length l))
+    ap₂ (λ x y. settled_of given room (Ok (x, y))) a b ∙ go (ltb n given) (ltb room (length l))
   where
-    go : (x y : Bool) → pick x (not_written (cells_left_at n)) (pick y (not_written output_small) (wrote_bytes (length l)))
+    go : (x y : Bool) → pick x (Err (cells_left_at n)) (pick y (Err output_small) (Ok (length l)))
         ≡ written_of (pick x (not (cells_left_at n)) (pick y (not output_small) (wrote l)))
     go true y = refl
     go false true = refl
@@ -38,27 +37,27 @@ settled_put given room (got l n) =
 settled_put given room (bad y) = refl
 
 module _ (given room : ℕ) (p : Put) where
-  pub settle_none : (y : Refusal) → p ≡ put_not y → not_written y ≡ settled_of given room p
+  pub settle_none : (y : Refusal) → p ≡ Err y → Err y ≡ settled_of given room p
   unfolding settled_of
   settle_none y e = ap (settled_of given room) (sym e)
 
-  module _ (n used : ℕ) (e : p ≡ put_done n used) where
-    after : settled_of given room p ≡ pick (ltb n given) (not_written (cells_left_at n)) (pick (ltb room used) (not_written output_small) (wrote_bytes used))
+  module _ (n used : ℕ) (e : p ≡ Ok (n, used)) where
+    after : settled_of given room p ≡ pick (ltb n given) (Err (cells_left_at n)) (pick (ltb room used) (Err output_small) (Ok used))
     unfolding settled_of
     after = ap (settled_of given room) e
 
-    pub settle_left : (r : Written) → n < given → r ≡ not_written (cells_left_at n) → r ≡ settled_of given room p
-    settle_left r h q = q ∙ sym (after ∙ ap (λ b. pick b (not_written (cells_left_at n)) (pick (ltb room used) (not_written output_small) (wrote_bytes used))) (lt-ltb n given h))
+    pub settle_left : (r : Written) → n < given → r ≡ Err (cells_left_at n) → r ≡ settled_of given room p
+    settle_left r h q = q ∙ sym (after ∙ ap (λ b. pick b (Err (cells_left_at n)) (pick (ltb room used) (Err output_small) (Ok used))) (lt-ltb n given h))
 
     module _ (all : given ≤ n) where
-      fitting : settled_of given room p ≡ pick (ltb room used) (not_written output_small) (wrote_bytes used)
-      fitting = after ∙ ap (λ b. pick b (not_written (cells_left_at n)) (pick (ltb room used) (not_written output_small) (wrote_bytes used))) (le-ltb n given all)
+      fitting : settled_of given room p ≡ pick (ltb room used) (Err output_small) (Ok used)
+      fitting = after ∙ ap (λ b. pick b (Err (cells_left_at n)) (pick (ltb room used) (Err output_small) (Ok used))) (le-ltb n given all)
 
-      pub settle_small : (r : Written) → room < used → r ≡ not_written output_small → r ≡ settled_of given room p
-      settle_small r h q = q ∙ sym (fitting ∙ ap (λ b. pick b (not_written output_small) (wrote_bytes used)) (lt-ltb room used h))
+      pub settle_small : (r : Written) → room < used → r ≡ Err output_small → r ≡ settled_of given room p
+      settle_small r h q = q ∙ sym (fitting ∙ ap (λ b. pick b (Err output_small) (Ok used)) (lt-ltb room used h))
 
-      pub settle_all : used ≤ room → wrote_bytes used ≡ settled_of given room p
-      settle_all h = sym (fitting ∙ ap (λ b. pick b (not_written output_small) (wrote_bytes used)) (le-ltb room used h))
+      pub settle_all : used ≤ room → Ok used ≡ settled_of given room p
+      settle_all h = sym (fitting ∙ ap (λ b. pick b (Err output_small) (Ok used)) (le-ltb room used h))
 
 pub part_settled : (part : Part) (tb cs : List ℕ) (room : ℕ) (p : Put) (r : Written) → p ≡ put_of 0 0 (part_in part tb cs) → r ≡ settled_of (length cs) room p → r ≡ written_of (part_out part tb cs room)
 part_settled part tb cs room p r f g = g ∙ ap (settled_of (length cs) room) f ∙ settled_put (length cs) room (part_in part tb cs) ∙ sym (ap written_of (part_in_lem part tb cs room))

@@ -1,4 +1,5 @@
 -- What is decided, step by step: from the answers of the parts to what the whole append gives.
+use Rattle.std.specs.Prelude.{Ok, Err}
 use mathlib.Core.Bool.{Bool, true, false}
 use mathlib.Core.List.{List, ◌++◌, [], ◌∷◌}
 use mathlib.Core.Path.{◌≡◌, refl, ap, sym, ◌∙◌, ap₂, subst}
@@ -33,14 +34,12 @@ use Rattle.rules.proofs.Laws.Table.{check_good, type_node}
 use Rattle.rules.specs.Types.{Ty, leaf, nothing, result, pair, array, vector, bits, size}
 use Rattle.rules.specs.Wire.{leaf_bytes, encode, placed, leaf_from}
 use Rattle.rules.proofs.Laws.Wire.{placed_says}
-use Rattle.rules.specs.declared.Check.{Check}
-use Rattle.rules.specs.declared.Check.TheVariants.{Fine as fine, Refused as wrong}
+use Rattle.rules.specs.Table.{Check}
 use Rattle.rules.specs.declared.Node.{Node}
 use Rattle.rules.specs.declared.Node.TheVariants.{Leaf as leaf_node, Option as option_node, Result as result_node, Pair as pair_node, Array as array_node, Vector as vector_node, Bits as bits_node, Unknown as unknown}
 use Rattle.rules.specs.declared.Refusal.{Refusal}
 use Rattle.rules.specs.declared.Width.TheVariants.{W4 as w4}
-use Rattle.rules.specs.declared.Written.{Written}
-use Rattle.rules.specs.declared.Written.TheVariants.{Bytes as wrote_bytes, Refused as not_written}
+use Rattle.rules.specs.Jobs.{Written}
 use Rattle.node.specs.Laws.{node_good, no_vector}
 use Rattle.encode_append.specs.Answers.{Held, by_used, held_append, few_append, why_refused}
 use Rattle.encode_append.specs.Joins.{heads, no_heads, root_check, lengths_of, items_behind, bytes_of, Joins}
@@ -48,7 +47,7 @@ use Rattle.encode_append.specs.Joins.{heads, no_heads, root_check, lengths_of, i
 -- ---- the root
 
 -- the check of a root that is a vector
-of_vector_lem : (g : ℕ → Ty) (n : Node) → OneOf (5 ∷ []) (tag_of node-type n) → of_vector (λ _. fine) (wrong append_root) (build g n) ≡ fine
+of_vector_lem : (g : ℕ → Ty) (n : Node) → OneOf (5 ∷ []) (tag_of node-type n) → of_vector (λ _. fine) (Err append_root) (build g n) ≡ fine
 of_vector_lem g (leaf_node k) h = absurd (miss (5 ∷ []) 0 tt h)
 of_vector_lem g (option_node a) h = absurd (miss (5 ∷ []) 1 tt h)
 of_vector_lem g (result_node a b) h = absurd (miss (5 ∷ []) 2 tt h)
@@ -68,15 +67,15 @@ module _ (tb : List ℕ) (n : Node) (f : check_table tb ≡ fine) (e : n ≡ nod
 
   pub root_vector : OneOf (5 ∷ []) (tag_of node-type n) → fine ≡ root_check tb
   unfolding root_check
-  root_vector h = sym (ap₂ (λ x t. after_check x wrong (of_vector (λ _. fine) (wrong append_root) t)) f root_node ∙ of_vector_lem (ty_at tb) n h)
+  root_vector h = sym (ap₂ (λ x t. after_check x Err (of_vector (λ _. fine) (Err append_root) t)) f root_node ∙ of_vector_lem (ty_at tb) n h)
 
-  pub root_other : (y : Refusal) → y ≡ append_root → OneOf (0 ∷ 1 ∷ 2 ∷ 3 ∷ 4 ∷ 6 ∷ 7 ∷ []) (tag_of node-type n) → wrong y ≡ root_check tb
+  pub root_other : (y : Refusal) → y ≡ append_root → OneOf (0 ∷ 1 ∷ 2 ∷ 3 ∷ 4 ∷ 6 ∷ 7 ∷ []) (tag_of node-type n) → Err y ≡ root_check tb
   unfolding root_check
-  root_other y ey h = ap wrong ey ∙ sym (ap₂ (λ x t. after_check x wrong (of_vector (λ _. fine) (wrong append_root) t)) f root_node ∙ no_vector (λ _. fine) (wrong append_root) (ty_at tb) (tag_of node-type) (λ _. refl) n h)
+  root_other y ey h = ap Err ey ∙ sym (ap₂ (λ x t. after_check x Err (of_vector (λ _. fine) (Err append_root) t)) f root_node ∙ no_vector (λ _. fine) (Err append_root) (ty_at tb) (tag_of node-type) (λ _. refl) n h)
 
-pub root_refused : (tb : List ℕ) (y : Refusal) → check_table tb ≡ wrong y → wrong y ≡ root_check tb
+pub root_refused : (tb : List ℕ) (y : Refusal) → check_table tb ≡ Err y → Err y ≡ root_check tb
 unfolding root_check
-root_refused tb y e = sym (ap (λ x. after_check x wrong (of_vector (λ _. fine) (wrong append_root) (root tb))) e)
+root_refused tb y e = sym (ap (λ x. after_check x Err (of_vector (λ _. fine) (Err append_root) (root tb))) e)
 
 -- a checked table whose root is a vector
 pub record Rooted (tb : List ℕ) : Type 0 where
@@ -88,7 +87,7 @@ pub rooted_at : (tb : List ℕ) → root_check tb ≡ fine → Rooted tb
 unfolding root_check
 rooted_at tb e = go (check_table tb) refl (root tb) refl e
   where
-    go : (x : Check) → check_table tb ≡ x → (t : Ty) → root tb ≡ t → after_check x wrong (of_vector (λ _. fine) (wrong append_root) t) ≡ fine → Rooted tb
+    go : (x : Check) → check_table tb ≡ x → (t : Ty) → root tb ≡ t → after_check x Err (of_vector (λ _. fine) (Err append_root) t) ≡ fine → Rooted tb
     go fine f (vector t) r h = record { item = t; checked = f; rooted = r }
     go fine f (leaf l) r h = absurd (let z : ◌≡◌ {A = ℕ} 0 1 = cc in omega arith)
     go fine f nothing r h = absurd (let z : ◌≡◌ {A = ℕ} 0 1 = cc in omega arith)
@@ -96,15 +95,15 @@ rooted_at tb e = go (check_table tb) refl (root tb) refl e
     go fine f (pair t u) r h = absurd (let z : ◌≡◌ {A = ℕ} 0 1 = cc in omega arith)
     go fine f (array n t) r h = absurd (let z : ◌≡◌ {A = ℕ} 0 1 = cc in omega arith)
     go fine f bits r h = absurd (let z : ◌≡◌ {A = ℕ} 0 1 = cc in omega arith)
-    go (wrong y) f t r h = absurd (let z : ◌≡◌ {A = ℕ} 0 1 = cc in omega arith)
+    go (Err y) f t r h = absurd (let z : ◌≡◌ {A = ℕ} 0 1 = cc in omega arith)
 
 module _ (tb buf : List ℕ) (used k : ℕ) (cs : List ℕ) where
   -- its refusals are the append's
-  pub unrooted : (y : Refusal) → root_check tb ≡ wrong y → append tb buf used k cs ≡ not y
+  pub unrooted : (y : Refusal) → root_check tb ≡ Err y → append tb buf used k cs ≡ not y
   unfolding root_check append append_to
   unrooted y e = go (check_table tb) (root tb) e
     where
-      go : (x : Check) (t : Ty) → after_check x wrong (of_vector (λ _. fine) (wrong append_root) t) ≡ wrong y
+      go : (x : Check) (t : Ty) → after_check x Err (of_vector (λ _. fine) (Err append_root) t) ≡ Err y
           → after_check x not (of_vector (λ u. pick (leb used (length buf)) (append_items u (take used buf) k cs (length buf)) (not append_used)) (not append_root) t) ≡ not y
       go fine (vector t) h = absurd (let z : ◌≡◌ {A = ℕ} 0 1 = cc in omega arith)
       go fine (leaf l) h = let q : append_root ≡ y = cc in ap not q
@@ -113,7 +112,7 @@ module _ (tb buf : List ℕ) (used k : ℕ) (cs : List ℕ) where
       go fine (pair t u) h = let q : append_root ≡ y = cc in ap not q
       go fine (array n t) h = let q : append_root ≡ y = cc in ap not q
       go fine bits h = let q : append_root ≡ y = cc in ap not q
-      go (wrong z) t h = let q : z ≡ y = cc in ap not q
+      go (Err z) t h = let q : z ≡ y = cc in ap not q
 
   pub beyond : Rooted tb → length buf < used → append tb buf used k cs ≡ not append_used
   beyond R h = why_refused tb buf used k cs append_used (by_used R.item R.checked R.rooted h refl)
@@ -289,38 +288,38 @@ module _ (end room : ℕ) where
   behind_fits l h = ap (λ b. pick b (not output_small) (wrote l)) (le-ltb room (end + length l) h)
 
   -- an answer of the items' size, and 22 after it
-  pub sized_not : (O : Output) (q : Written) (y : Refusal) → q ≡ written_of O → q ≡ not_written y → not_written y ≡ written_of (items_behind end room O)
+  pub sized_not : (O : Output) (q : Written) (y : Refusal) → q ≡ written_of O → q ≡ Err y → Err y ≡ written_of (items_behind end room O)
   unfolding items_behind
-  sized_not (wrote l) q y e f = absurd (let g : wrote_bytes (length l) ≡ not_written y = sym e ∙ f in let z : ◌≡◌ {A = ℕ} 0 1 = cc in omega arith)
+  sized_not (wrote l) q y e f = absurd (let g : Ok (length l) ≡ Err y = sym e ∙ f in let z : ◌≡◌ {A = ℕ} 0 1 = cc in omega arith)
   sized_not (not x) q y e f = sym f ∙ e
 
-  pub sized_small : (O : Output) (q : Written) (n : ℕ) (y : Refusal) → q ≡ written_of O → q ≡ wrote_bytes n → y ≡ output_small → room < end + n → not_written y ≡ written_of (items_behind end room O)
+  pub sized_small : (O : Output) (q : Written) (n : ℕ) (y : Refusal) → q ≡ written_of O → q ≡ Ok n → y ≡ output_small → room < end + n → Err y ≡ written_of (items_behind end room O)
   sized_small (wrote l) q n y e f ey h =
-      let g : wrote_bytes (length l) ≡ wrote_bytes n = sym e ∙ f in
+      let g : Ok (length l) ≡ Ok n = sym e ∙ f in
       let k : length l ≡ n = cc in
-      ap not_written ey ∙ sym (ap written_of (behind_small l (omega arith)))
-  sized_small (not x) q n y e f ey h = absurd (let g : not_written x ≡ wrote_bytes n = sym e ∙ f in let z : ◌≡◌ {A = ℕ} 0 1 = cc in omega arith)
+      ap Err ey ∙ sym (ap written_of (behind_small l (omega arith)))
+  sized_small (not x) q n y e f ey h = absurd (let g : Err x ≡ Ok n = sym e ∙ f in let z : ◌≡◌ {A = ℕ} 0 1 = cc in omega arith)
 
-  pub sized_fits : (O : Output) (q : Written) (n : ℕ) → q ≡ written_of O → q ≡ wrote_bytes n → end + n ≤ room → wrote_bytes n ≡ written_of (items_behind end room O)
+  pub sized_fits : (O : Output) (q : Written) (n : ℕ) → q ≡ written_of O → q ≡ Ok n → end + n ≤ room → Ok n ≡ written_of (items_behind end room O)
   sized_fits (wrote l) q n e f h =
-      let g : wrote_bytes (length l) ≡ wrote_bytes n = sym e ∙ f in
+      let g : Ok (length l) ≡ Ok n = sym e ∙ f in
       let k : length l ≡ n = cc in
-      sym (ap written_of (behind_fits l (omega arith)) ∙ ap wrote_bytes k)
-  sized_fits (not x) q n e f h = absurd (let g : not_written x ≡ wrote_bytes n = sym e ∙ f in let z : ◌≡◌ {A = ℕ} 0 1 = cc in omega arith)
+      sym (ap written_of (behind_fits l (omega arith)) ∙ ap Ok k)
+  sized_fits (not x) q n e f h = absurd (let g : Err x ≡ Ok n = sym e ∙ f in let z : ◌≡◌ {A = ℕ} 0 1 = cc in omega arith)
 
   -- and what that says of the items
-  behind_not : (O : Output) (y : Refusal) → not_written y ≡ written_of (items_behind end room O) → items_behind end room O ≡ not y
+  behind_not : (O : Output) (y : Refusal) → Err y ≡ written_of (items_behind end room O) → items_behind end room O ≡ not y
   behind_not O y e = go (items_behind end room O) e
     where
-      go : (x : Output) → not_written y ≡ written_of x → x ≡ not y
+      go : (x : Output) → Err y ≡ written_of x → x ≡ not y
       go (wrote l) f = absurd (let z : ◌≡◌ {A = ℕ} 0 1 = cc in omega arith)
       go (not x) f = let q : y ≡ x = cc in ap not (sym q)
 
-  behind_wrote : (O : Output) (n : ℕ) → wrote_bytes n ≡ written_of (items_behind end room O) → (O ≡ wrote (bytes_of O)) × (n ≡ length (bytes_of O)) × (end + n ≤ room)
+  behind_wrote : (O : Output) (n : ℕ) → Ok n ≡ written_of (items_behind end room O) → (O ≡ wrote (bytes_of O)) × (n ≡ length (bytes_of O)) × (end + n ≤ room)
   unfolding items_behind
   behind_wrote (wrote l) n e = go (ltb room (end + length l)) refl e
     where
-      go : (b : Bool) → ltb room (end + length l) ≡ b → wrote_bytes n ≡ written_of (pick b (not output_small) (wrote l)) → (wrote l ≡ wrote l) × (n ≡ length l) × (end + n ≤ room)
+      go : (b : Bool) → ltb room (end + length l) ≡ b → Ok n ≡ written_of (pick b (not output_small) (wrote l)) → (wrote l ≡ wrote l) × (n ≡ length l) × (end + n ≤ room)
       go true g f = absurd (let z : ◌≡◌ {A = ℕ} 0 1 = cc in omega arith)
       go false g f = let q : n ≡ length l = cc in (refl, q, omega (arith, ltb-false room (end + length l) g))
   behind_wrote (not y) n e = absurd (let z : ◌≡◌ {A = ℕ} 0 1 = cc in omega arith)
@@ -359,10 +358,10 @@ module _ (tb buf : List ℕ) (used k : ℕ) (cs : List ℕ) (count old new : ℕ
       ∙ put_within (length cs) (length buf) (new + (used - old)) (joined_bytes buf used count old) (put (array k R.item) 0 cs) longer short_items
       ∙ ap (λ o. within (joined_bytes buf used count old) (items_behind (new + (used - old)) (length buf) o)) (sym (items_put tb R k cs (2 ^ 64 - 1)))
 
-  pub plan_not : (q : Written) (y : Refusal) → q ≡ written_of (items_behind (new + (used - old)) (length buf) (write_items tb k cs (2 ^ 64 - 1))) → q ≡ not_written y → append tb buf used k cs ≡ not y
+  pub plan_not : (q : Written) (y : Refusal) → q ≡ written_of (items_behind (new + (used - old)) (length buf) (write_items tb k cs (2 ^ 64 - 1))) → q ≡ Err y → append tb buf used k cs ≡ not y
   plan_not q y e f = appended_within ∙ ap (within (joined_bytes buf used count old)) (behind_not (new + (used - old)) (length buf) (write_items tb k cs (2 ^ 64 - 1)) y (sym f ∙ e))
 
-  pub plan_joins : (q : Written) (n : ℕ) → q ≡ written_of (items_behind (new + (used - old)) (length buf) (write_items tb k cs (2 ^ 64 - 1))) → q ≡ wrote_bytes n → Joins tb buf used k cs count old new n
+  pub plan_joins : (q : Written) (n : ℕ) → q ≡ written_of (items_behind (new + (used - old)) (length buf) (write_items tb k cs (2 ^ 64 - 1))) → q ≡ Ok n → Joins tb buf used k cs count old new n
   plan_joins q n e f =
       let O = write_items tb k cs (2 ^ 64 - 1) in
       let b = behind_wrote (new + (used - old)) (length buf) O n (sym f ∙ e) in

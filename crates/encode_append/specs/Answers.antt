@@ -1,5 +1,5 @@
 -- Demands 1 and 2 about append's own answers: r is any answer that the contract allows, and m what the buffer is afterwards.
-use Rattle.std.specs.Prelude.{Bool, true, false, ℕ, ◌+◌, ◌^◌, ◌≤◌, ◌<◌, ltb, leb, drop, take}
+use Rattle.std.specs.Prelude.{Bool, true, false, ℕ, ◌+◌, ◌^◌, ◌≤◌, ◌<◌, ltb, leb, drop, take, Ok, Err}
 use mathlib.Core.List.{List, ◌++◌, [], ◌∷◌}
 use Rattle.std.proofs.Math.Path.{◌≡◌, refl, ap, sym, ap₂}
 use Rattle.std.proofs.Common.{◌∙◌, subst, le_refl, ltb-true, ltb-false, lt-ltb, le-ltb, leb-true, leb-false, le-leb, take-append-drop, length-take-le, drop_at}
@@ -21,13 +21,11 @@ use Rattle.rules.proofs.Laws.RoundTrip.{cells_unpacked}
 use Rattle.rules.specs.Table.{root, check_table, after_check}
 use Rattle.rules.specs.Types.{Ty, leaf, nothing, result, pair, array, vector, bits, Val, Fits}
 use Rattle.rules.specs.Wire.{leaf_bytes, encode, leaf_from}
-use Rattle.rules.specs.declared.Check.{Check}
-use Rattle.rules.specs.declared.Check.TheVariants.{Fine as fine, Refused as wrong}
+use Rattle.rules.specs.Table.{Check}
 use Rattle.rules.specs.declared.Leaf.TheVariants.{Compact as compact}
 use Rattle.rules.specs.declared.Refusal.{Refusal}
 use Rattle.rules.specs.declared.Width.TheVariants.{W4 as w4}
-use Rattle.rules.specs.declared.Written.{Written}
-use Rattle.rules.specs.declared.Written.TheVariants.{Bytes as wrote_bytes, Refused as not_written}
+use Rattle.rules.specs.Jobs.{Written}
 -- that any two answers are equal, that a refusal leaves the buffer, and that the bytes past what is written stay, is said once for every job that writes:
 pub use Rattle.encode.specs.Answers.{Contract, one_writing, refusal_leaves, written_front}
 
@@ -46,7 +44,7 @@ pub record Counts (tb buf : List ℕ) (used : ℕ) (t : Ty) (c n : ℕ) : Type 0
 
 -- DEMAND 1: why, in the order of the rules' list: the table; 30; 31; 32, by any refusal of the compact reader; 33, for any k; the items' cells, by the rules of `unpack`; 23; 22
 pub data Why (tb buf : List ℕ) (used k : ℕ) (cs : List ℕ) (y : Refusal) : Type 0 where
-  by_table : check_table tb ≡ wrong y → Why tb buf used k cs y
+  by_table : check_table tb ≡ Err y → Why tb buf used k cs y
   by_root : check_table tb ≡ fine → ((t : Ty) → root tb ≡ vector t → ⊥) → y ≡ append_root → Why tb buf used k cs y
   by_used : (t : Ty) → check_table tb ≡ fine → root tb ≡ vector t → length buf < used → y ≡ append_used → Why tb buf used k cs y
   by_head : (t : Ty) (x : Refusal) → Held tb buf used t → 0 < used → leaf_from (compact w4) 0 (take used buf) ≡ bad x → y ≡ append_head → Why tb buf used k cs y
@@ -171,7 +169,7 @@ module _ (tb buf : List ℕ) (used k : ℕ) (cs : List ℕ) where
     where
       go : (x : Check) → check_table tb ≡ x → Outcome
       go fine e = by_root_lem e (root tb) refl
-      go (wrong y) e = refuses y (by_table e)
+      go (Err y) e = refuses y (by_table e)
 
   wrote_all : (t : Ty) (c n : ℕ) (w : List (Val t)) (i : ℕ) → Counts tb buf used t c n → c + k ≤ max_count → times k (unpack t) 0 cs ≡ got w i → length cs ≤ i
       → length (joined t (c + k) n (take used buf) w) ≤ length buf → append tb buf used k cs ≡ wrote (joined t (c + k) n (take used buf) w)
@@ -216,22 +214,22 @@ module _ (tb buf : List ℕ) (used k : ℕ) (cs : List ℕ) where
 
 module _ (tb buf : List ℕ) (used k : ℕ) (cs : List ℕ) (r : Written) (m : List ℕ) (c : Contract (append tb buf used k cs) buf r m) where
   -- DEMAND 1: each refusal is given exactly where the rules' list says, and leaves the buffer
-  pub append_refused : (y : Refusal) → r ≡ not_written y → Why tb buf used k cs y
+  pub append_refused : (y : Refusal) → r ≡ Err y → Why tb buf used k cs y
   append_refused y e = go (append tb buf used k cs) refl
     where
       go : (o : Output) → append tb buf used k cs ≡ o → Why tb buf used k cs y
-      go (wrote l) q = absurd (let f : wrote_bytes (length l) ≡ not_written y = sym (ap written_of q) ∙ sym c.answers ∙ e in let z : ◌≡◌ {A = ℕ} 0 1 = cc in omega arith)
-      go (not x) q = let f : not_written x ≡ not_written y = sym (ap written_of q) ∙ sym c.answers ∙ e in let z : x ≡ y = cc in refused_why tb buf used k cs y (q ∙ ap not z)
+      go (wrote l) q = absurd (let f : Ok (length l) ≡ Err y = sym (ap written_of q) ∙ sym c.answers ∙ e in let z : ◌≡◌ {A = ℕ} 0 1 = cc in omega arith)
+      go (not x) q = let f : Err x ≡ Err y = sym (ap written_of q) ∙ sym c.answers ∙ e in let z : x ≡ y = cc in refused_why tb buf used k cs y (q ∙ ap not z)
 
-  pub append_refuses : (y : Refusal) → Why tb buf used k cs y → (r ≡ not_written y) × (m ≡ buf)
+  pub append_refuses : (y : Refusal) → Why tb buf used k cs y → (r ≡ Err y) × (m ≡ buf)
   append_refuses y h = let e = why_refused tb buf used k cs y h in (c.answers ∙ ap written_of e, c.writes ∙ ap (λ o. output_after o buf) e)
 
   -- DEMAND 2: what an accepted append leaves, exactly if there are such items and they have room
   pub append_accepts : (t : Ty) (o n : ℕ) (w : List (Val t)) → Appended tb buf used k cs t o n w
-      → (r ≡ wrote_bytes (length (joined t (o + k) n (take used buf) w))) × (m ≡ onto (joined t (o + k) n (take used buf) w) buf)
+      → (r ≡ Ok (length (joined t (o + k) n (take used buf) w))) × (m ≡ onto (joined t (o + k) n (take used buf) w) buf)
   append_accepts t o n w A = let e = append_wrote tb buf used k cs t o n w A in (c.answers ∙ ap written_of e, c.writes ∙ ap (λ x. output_after x buf) e)
 
-  pub append_accepted : Under (2 ^ 64) cs → (i : ℕ) → r ≡ wrote_bytes i
+  pub append_accepted : Under (2 ^ 64) cs → (i : ℕ) → r ≡ Ok i
       → (t : Ty) × ((o : ℕ) × ((n : ℕ) × ((w : List (Val t)) × (Appended tb buf used k cs t o n w × (i ≡ length (joined t (o + k) n (take used buf) w)) × (m ≡ onto (joined t (o + k) n (take used buf) w) buf)))))
   append_accepted u i e =
       let f = written_front (append tb buf used k cs) buf r m i c e in
@@ -240,13 +238,13 @@ module _ (tb buf : List ℕ) (used k : ℕ) (cs : List ℕ) (r : Written) (m : L
       (a.0, (a.1.0, (a.1.1.0, (a.1.1.1.0, (a.1.1.1.1.0, sym f.2 ∙ ap length b, f.3 ∙ ap (λ x. onto x buf) b)))))
 
   -- the bytes past the new used length stay
-  pub append_stays : (i : ℕ) → r ≡ wrote_bytes i → drop i m ≡ drop i buf
+  pub append_stays : (i : ℕ) → r ≡ Ok i → drop i m ≡ drop i buf
   append_stays i e =
       let f = written_front (append tb buf used k cs) buf r m i c e in
       ap (drop i) f.3 ∙ drop_at f.0 (drop (length f.0) buf) i f.2 ∙ ap (λ x. drop x buf) f.2
 
   -- a job that is fitted: its bytes where there is room, and else 22
-  fits_in : (l : List ℕ) → append tb buf used k cs ≡ fitted (length buf) l → length l ≤ length buf → (r ≡ wrote_bytes (length l)) × (m ≡ onto l buf)
+  fits_in : (l : List ℕ) → append tb buf used k cs ≡ fitted (length buf) l → length l ≤ length buf → (r ≡ Ok (length l)) × (m ≡ onto l buf)
   fits_in l e h =
       let q : append tb buf used k cs ≡ wrote l = e ∙ ap (λ b. pick b (not output_small) (wrote l)) (le-ltb (length buf) (length l) h) in
       (c.answers ∙ ap written_of q, c.writes ∙ ap (λ x. output_after x buf) q)
@@ -254,27 +252,27 @@ module _ (tb buf : List ℕ) (used k : ℕ) (cs : List ℕ) (r : Written) (m : L
   -- DEMAND 2's sentence on append: to a vector v as the writer gives it, the items w make the encoding of the joined items
   pub append_joined : (t : Ty) (v w : List (Val t)) → Held tb buf used t → take used buf ≡ encode (vector t) v → All (Fits t) w → k ≡ length w → cs ≡ flat (cells t) w
       → length v + length w ≤ max_count → length (encode (vector t) (v ++ w)) ≤ length buf
-      → (r ≡ wrote_bytes (length (encode (vector t) (v ++ w)))) × (m ≡ onto (encode (vector t) (v ++ w)) buf)
+      → (r ≡ Ok (length (encode (vector t) (v ++ w)))) × (m ≡ onto (encode (vector t) (v ++ w)) buf)
   append_joined t v w H e f ek ec few h =
       fits_in (encode (vector t) (v ++ w)) (ap₂ (append tb buf used) ek ec ∙ appended_joins tb buf t used v w H.checked H.rooted H.there e f few) h
 
   -- and where no byte is used they make a vector by themselves
   pub append_new : (t : Ty) (w : List (Val t)) → Held tb buf used t → used ≡ 0 → All (Fits t) w → k ≡ length w → cs ≡ flat (cells t) w → length w ≤ max_count → length (encode (vector t) w) ≤ length buf
-      → (r ≡ wrote_bytes (length (encode (vector t) w))) × (m ≡ onto (encode (vector t) w) buf)
+      → (r ≡ Ok (length (encode (vector t) w))) × (m ≡ onto (encode (vector t) w) buf)
   append_new t w H z f ek ec few h =
       fits_in (encode (vector t) w)
       (append_at tb buf t used k cs H.checked H.rooted H.there ∙ ap (λ x. append_items t (take x buf) k cs (length buf)) z
       ∙ ap₂ (λ x y. append_items t [] x y (length buf)) ek ec ∙ append_first t w (length buf) f few) h
 
   -- no items change nothing, but that where no byte is used they make the empty vector, 00
-  pub append_nothing : (t : Ty) (o n : ℕ) → Held tb buf used t → Under 256 buf → leaf_from (compact w4) 0 (take used buf) ≡ got o n → k ≡ 0 → cs ≡ [] → (r ≡ wrote_bytes used) × (m ≡ buf)
+  pub append_nothing : (t : Ty) (o n : ℕ) → Held tb buf used t → Under 256 buf → leaf_from (compact w4) 0 (take used buf) ≡ got o n → k ≡ 0 → cs ≡ [] → (r ≡ Ok used) × (m ≡ buf)
   append_nothing t o n H u e ek ec =
       let l : length (take used buf) ≡ used = length-take-le used buf H.there in
       let a = fits_in (take used buf)
       (append_at tb buf t used k cs H.checked H.rooted H.there ∙ ap₂ (λ x y. append_items t (take used buf) x y (length buf)) ek ec
       ∙ append_none t (take used buf) (length buf) o n (under_take 256 used buf u) e) (omega (arith, l, H.there)) in
-      (a.0 ∙ ap wrote_bytes l, a.1 ∙ ap (λ x. take used buf ++ drop x buf) l ∙ take-append-drop used buf)
+      (a.0 ∙ ap Ok l, a.1 ∙ ap (λ x. take used buf ++ drop x buf) l ∙ take-append-drop used buf)
 
-  pub append_empty : (t : Ty) → Held tb buf used t → used ≡ 0 → k ≡ 0 → cs ≡ [] → 1 ≤ length buf → (r ≡ wrote_bytes 1) × (m ≡ onto (0 ∷ []) buf)
+  pub append_empty : (t : Ty) → Held tb buf used t → used ≡ 0 → k ≡ 0 → cs ≡ [] → 1 ≤ length buf → (r ≡ Ok 1) × (m ≡ onto (0 ∷ []) buf)
   unfolding write leaf_bytes compact_bytes le_bytes
   append_empty t H z ek ec h = append_new t [] H z tt ek ec (omega arith) h

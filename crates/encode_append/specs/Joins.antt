@@ -1,13 +1,12 @@
 -- What the parts of an append answer, and what they need.
-use Rattle.std.specs.Prelude.{List, ◌++◌, [], ◌≡◌, ℕ, ◌+◌, ◌-◌, ◌^◌, ◌≤◌, ltb, leb, length, drop, take}
+use Rattle.std.specs.Prelude.{List, ◌++◌, [], ◌≡◌, ℕ, ◌+◌, ◌-◌, ◌^◌, ◌≤◌, ltb, leb, length, drop, take, Err}
 use Rattle.rules.specs.Basics.{pick}
 use Rattle.rules.specs.Compact.{compact_bytes}
 use Rattle.rules.specs.Jobs.{Output, wrote, not, of_vector, write_items, append}
 use Rattle.rules.specs.Parser.{Res, got, bad}
 use Rattle.rules.specs.Refusals.{output_small, append_root, append_head, append_count, max_count}
 use Rattle.rules.specs.Table.{root, check_table, after_check}
-use Rattle.rules.specs.declared.Check.{Check}
-use Rattle.rules.specs.declared.Check.TheVariants.{Fine as fine, Refused as wrong}
+use Rattle.rules.specs.Table.{Check}
 pub use Rattle.encode_append.specs.declared.Lengths.{Lengths}
 pub use Rattle.encode_append.specs.declared.Lengths.TheVariants.{Of as heads, Refused as no_heads}
 pub use Rattle.encode_append.specs.declared.Plan.{Plan}
@@ -15,7 +14,7 @@ pub use Rattle.encode_append.specs.declared.Plan.TheVariants.{Join as joining, R
 
 -- the table's check, and then 30
 unfoldable pub root_check : List ℕ → Check
-root_check tb = after_check (check_table tb) wrong (of_vector (λ _. fine) (wrong append_root) (root tb))
+root_check tb = after_check (check_table tb) Err (of_vector (λ _. fine) (Err append_root) (root tb))
 
 -- 32, 33 and the heads, by the old count
 unfoldable pub lengths_of : ℕ → Res ℕ → Lengths

@@ -1,4 +1,5 @@
 -- Leaves, by the tests that the code makes: one law for each return.
+use Rattle.std.specs.Prelude.{Ok, Err}
 use mathlib.Core.Bool.{Bool, true, false}
 use mathlib.Core.List.{List, [], ◌∷◌}
 use mathlib.Core.Path.{◌≡◌, refl, ap, sym, ◌∙◌, ap₂}
@@ -31,15 +32,15 @@ use Rattle.leaf.specs.declared.Count.TheVariants.{Of as counts, Refused as no_co
 use Rattle.leaf.specs.declared.Taken.{Taken}
 use Rattle.leaf.specs.declared.Taken.TheVariants.{One as one_cell, Two as two_cells, Refused as no_leaf}
 
-pub byte_none : (m at : ℕ) (s : List ℕ) (y : Refusal) → length s ≡ 0 → y ≡ short_at at → no_leaf y ≡ in_one (byte_from m at s)
+pub byte_none : (m at : ℕ) (s : List ℕ) (y : Refusal) → length s ≡ 0 → y ≡ short_at at → Err y ≡ in_one (byte_from m at s)
 unfolding in_one byte_from
-byte_none m at [] y e q = ap no_leaf q
+byte_none m at [] y e q = ap Err q
 byte_none m at (b ∷ s) y e q = absurd (omega arith)
 
-pub byte_large : (m at : ℕ) (s : List ℕ) (y : Refusal) → (length s ≡ 0 → ⊥) → m ≤ get_or s 0 0 → y ≡ tag_at at → no_leaf y ≡ in_one (byte_from m at s)
+pub byte_large : (m at : ℕ) (s : List ℕ) (y : Refusal) → (length s ≡ 0 → ⊥) → m ≤ get_or s 0 0 → y ≡ tag_at at → Err y ≡ in_one (byte_from m at s)
 unfolding in_one byte_from
 byte_large m at [] y n h q = absurd (n refl)
-byte_large m at (b ∷ s) y n h q = ap no_leaf q ∙ sym (ap (λ x. in_one (pick x (got b 1) (bad (tag_at at)))) (le-ltb b m h))
+byte_large m at (b ∷ s) y n h q = ap Err q ∙ sym (ap (λ x. in_one (pick x (got b 1) (bad (tag_at at)))) (le-ltb b m h))
 
 pub byte_small : (m at : ℕ) (s : List ℕ) → (length s ≡ 0 → ⊥) → get_or s 0 0 < m → one_cell (get_or s 0 0) 1 ≡ in_one (byte_from m at s)
 unfolding in_one byte_from
@@ -54,18 +55,18 @@ number_bad : (n at : ℕ) (s : List ℕ) → length s < n → number_from n at s
 unfolding number_from
 number_bad n at s h = whole_short n _ s (λ l. got (le_value l) n) h
 
-pub number_short : (n at : ℕ) (s : List ℕ) (y : Refusal) → length s < n → y ≡ short_at at → no_leaf y ≡ in_one (number_from n at s)
+pub number_short : (n at : ℕ) (s : List ℕ) (y : Refusal) → length s < n → y ≡ short_at at → Err y ≡ in_one (number_from n at s)
 unfolding in_one
-number_short n at s y h q = ap no_leaf q ∙ sym (ap in_one (number_bad n at s h))
+number_short n at s y h q = ap Err q ∙ sym (ap in_one (number_bad n at s h))
 
 pub number_there : (n at v : ℕ) (s : List ℕ) → n ≤ length s → n ≤ 8 → v ≡ le_value (take (min n 8) s) → one_cell v n ≡ in_one (number_from n at s)
 unfolding in_one
 number_there n at v s h few e =
     ap (λ x. one_cell x n) (one_word n v s e few) ∙ sym (ap in_one (number_got n at s h))
 
-pub wide_short : (at : ℕ) (s : List ℕ) (y : Refusal) → length s < 16 → y ≡ short_at at → no_leaf y ≡ in_two (number_from 16 at s)
+pub wide_short : (at : ℕ) (s : List ℕ) (y : Refusal) → length s < 16 → y ≡ short_at at → Err y ≡ in_two (number_from 16 at s)
 unfolding in_two
-wide_short at s y h q = ap no_leaf q ∙ sym (ap in_two (number_bad 16 at s h))
+wide_short at s y h q = ap Err q ∙ sym (ap in_two (number_bad 16 at s h))
 
 pub wide_there : (at low high : ℕ) (s : List ℕ) → 16 ≤ length s → low < 2 ^ 64 → low ≡ le_value (take 8 s) → high ≡ le_value (take 8 (take (length s - 8) (drop 8 s)))
     → two_cells low high 16 ≡ in_two (number_from 16 at s)
@@ -89,19 +90,19 @@ unfolding leaf_from
 compact_is w at s = refl
 
 -- a refusal, whatever the width
-refused_taken : (k : Leaf) (y : Refusal) → taken_of k (bad y) ≡ no_leaf y
+refused_taken : (k : Leaf) (y : Refusal) → taken_of k (bad y) ≡ Err y
 unfolding taken_of in_one in_two
 refused_taken k y = go (wide k)
   where
-    go : (b : Bool) → pick b (no_leaf y) (no_leaf y) ≡ no_leaf y
+    go : (b : Bool) → pick b (Err y) (Err y) ≡ Err y
     go true = refl
     go false = refl
 
 pub compact_refused : (w : Width) (at : ℕ) (s : List ℕ) (q : Reading) (a : Answer) (y y' : Refusal) → q ≡ in_halves (compact_from (size w) s) → a ≡ said q → placed at a ≡ bad y' → y ≡ y'
-    → no_leaf y ≡ taken_of (compact w) (leaf_from (compact w) at s)
+    → Err y ≡ taken_of (compact w) (leaf_from (compact w) at s)
 compact_refused w at s q a y y' e f p g =
     let b : compact_from (size w) s ≡ a = said_back (compact_from (size w) s) q (sym e) ∙ sym f in
-    ap no_leaf g ∙ sym (refused_taken (compact w) y') ∙ ap (taken_of (compact w)) (sym p) ∙ ap (compact_taken w at) (sym b) ∙ sym (compact_is w at s)
+    ap Err g ∙ sym (refused_taken (compact w) y') ∙ ap (taken_of (compact w)) (sym p) ∙ ap (compact_taken w at) (sym b) ∙ sym (compact_is w at s)
 
 module _ (w : Width) (at low high used : ℕ) (s : List ℕ) (q : Reading) (e : q ≡ in_halves (compact_from (size w) s)) (f : q ≡ Value low high used) where
   compact_value : compact_from (size w) s ≡ value (whole low high) used
@@ -141,12 +142,12 @@ leaf_as k k' at s r e q = q ∙ ap (λ x. taken_of x (leaf_from x at s)) (sym e)
 
 -- ---- a count
 
-pub count_one : (r : Res ℕ) (n u : ℕ) → in_one r ≡ one_cell n u → counts n u ≡ count_of r
+pub count_one : (r : Res ℕ) (n u : ℕ) → in_one r ≡ one_cell n u → Ok (n, u) ≡ count_of r
 unfolding in_one count_of
 count_one (got v m) n u e =
     let a : v ≡ n = cc in
     let b : m ≡ u = cc in
-    ap₂ counts (sym a) (sym b)
+    ap₂ (λ x y. Ok (x, y)) (sym a) (sym b)
 count_one (bad y) n u e = absurd (let z : ◌≡◌ {A = ℕ} 0 1 = cc in omega arith)
 
 pub count_two : {A : Type 0} (r : Res ℕ) (n m u : ℕ) → in_one r ≡ two_cells n m u → A
@@ -154,7 +155,7 @@ unfolding in_one
 count_two (got v k) n m u e = absurd (let z : ◌≡◌ {A = ℕ} 0 1 = cc in omega arith)
 count_two (bad y) n m u e = absurd (let z : ◌≡◌ {A = ℕ} 0 1 = cc in omega arith)
 
-pub count_none : (r : Res ℕ) (y : Refusal) → in_one r ≡ no_leaf y → no_count y ≡ count_of r
+pub count_none : (r : Res ℕ) (y : Refusal) → in_one r ≡ Err y → Err y ≡ count_of r
 unfolding in_one count_of
 count_none (got v m) y e = absurd (let z : ◌≡◌ {A = ℕ} 0 1 = cc in omega arith)
-count_none (bad x) y e = let a : x ≡ y = cc in ap no_count (sym a)
+count_none (bad x) y e = let a : x ≡ y = cc in ap Err (sym a)

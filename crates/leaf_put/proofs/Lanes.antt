@@ -1,4 +1,5 @@
 -- Bit vectors from cells.
+use Rattle.std.specs.Prelude.{Ok, Err}
 use mathlib.Core.Bool.{Bool, true, false}
 use mathlib.Core.List.{List, ◌++◌, [], ◌∷◌}
 use mathlib.Core.Path.{◌≡◌, ap, sym, ◌∙◌, ap₂}
@@ -24,7 +25,6 @@ use Rattle.rules.specs.Refusals.{bit_count_at, cells_end_at, unfit_at, max_bits}
 use Rattle.rules.specs.Scan.{sat}
 use Rattle.rules.specs.Types.{bits}
 use Rattle.rules.specs.Wire.{leaf_bytes, bits_bytes}
-use Rattle.rules.specs.declared.Put.TheVariants.{Done as put_done, Refused as put_not}
 use Rattle.rules.specs.declared.Refusal.{Refusal}
 use Rattle.rules.specs.declared.Width.TheVariants.{W4 as w4}
 use Rattle.leaf_put.proofs.Putting.{sets_sat, Puts, none_put, all_put}
@@ -57,7 +57,7 @@ count_few n h = compact_longest w4 (whole n 0) (omega (arith, h))
 -- ---- a bit vector's cells
 
 -- a bit vector that is refused
-pub bits_refused : (pos : ℕ) (cs out : List ℕ) (y : Refusal) → bits_taken 0 cs ≡ bad y → Puts pos (put bits 0 cs) out (put_not y) out
+pub bits_refused : (pos : ℕ) (cs out : List ℕ) (y : Refusal) → bits_taken 0 cs ≡ bad y → Puts pos (put bits 0 cs) out (Err y) out
 unfolding put parse write
 bits_refused pos cs out y e = none_put bits_bytes pos out (bits_taken 0 cs) y e
 
@@ -98,7 +98,7 @@ module _ (n : ℕ) (s cs : List ℕ) (e : n ∷ s ≡ cs) where
           held ∙ ap (λ x. pick x (got (lanes 64 n (take (words64 n) s)) (1 + words64 n)) (bad (unfit_at (0 + words64 n)))) c ∙ ap bad (sym (q ∙ ap unfit_at k))
 
       pub bits_done : (pos used : ℕ) (out m : List ℕ) → clear_cells n s ≡ true → used ≡ length (bits_bytes (lanes 64 n (take (words64 n) s)))
-          → m ≡ sets out pos (bits_bytes (lanes 64 n (take (words64 n) s))) → Puts pos (put bits 0 cs) out (put_done (1 + words64 n) used) m
+          → m ≡ sets out pos (bits_bytes (lanes 64 n (take (words64 n) s))) → Puts pos (put bits 0 cs) out (Ok (1 + words64 n, used)) m
       unfolding clear_cells put parse write
       bits_done pos used out m c eu em =
           all_put bits_bytes pos out (bits_taken 0 cs) (lanes 64 n (take (words64 n) s)) (1 + words64 n) used m

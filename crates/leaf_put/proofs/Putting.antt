@@ -1,4 +1,5 @@
 -- From what was taken and put to the answer and the output afterwards.
+use Rattle.std.specs.Prelude.{Ok, Err}
 use mathlib.Core.Bool.{Bool, true, false}
 use mathlib.Core.List.{List}
 use mathlib.Core.Path.{◌≡◌, refl, ap, sym, ◌∙◌, ap₂, subst}
@@ -12,8 +13,7 @@ use Rattle.rules.specs.Parser.{Res, got, bad, map_res}
 use Rattle.rules.proofs.Laws.Places.{sets_out}
 use Rattle.rules.specs.Put.{put_of}
 use Rattle.rules.specs.Scan.{sat}
-use Rattle.rules.specs.declared.Put.{Put}
-use Rattle.rules.specs.declared.Put.TheVariants.{Done as put_done, Refused as put_not}
+use Rattle.rules.specs.Put.{Put}
 use Rattle.rules.specs.declared.Refusal.{Refusal}
 use Rattle.leaf_put.specs.Landed.{landed_of}
 
@@ -31,13 +31,13 @@ Puts pos P out r m = (r ≡ put_of 0 0 P) × (m ≡ landed_of pos P out)
 
 -- a value that is refused, and one whose bytes were put
 module _ {A : Type 0} (f : A → List ℕ) (pos : ℕ) (out : List ℕ) (R : Res A) where
-  pub none_put : (y : Refusal) → R ≡ bad y → Puts pos (map_res f R) out (put_not y) out
+  pub none_put : (y : Refusal) → R ≡ bad y → Puts pos (map_res f R) out (Err y) out
   unfolding map_res put_of landed_of
-  none_put y e = subst (λ x. Puts pos (map_res f x) out (put_not y) out) (sym e) (refl, refl)
+  none_put y e = subst (λ x. Puts pos (map_res f x) out (Err y) out) (sym e) (refl, refl)
 
-  pub all_put : (v : A) (n used : ℕ) (m : List ℕ) → R ≡ got v n → used ≡ length (f v) → m ≡ sets out pos (f v) → Puts pos (map_res f R) out (put_done n used) m
+  pub all_put : (v : A) (n used : ℕ) (m : List ℕ) → R ≡ got v n → used ≡ length (f v) → m ≡ sets out pos (f v) → Puts pos (map_res f R) out (Ok (n, used)) m
   unfolding map_res put_of landed_of
   all_put v n used m e q h =
       let a : n ≡ 0 + n = omega arith in
       let b : used ≡ 0 + length (f v) = omega (arith, q) in
-      subst (λ x. Puts pos (map_res f x) out (put_done n used) m) (sym e) (ap₂ put_done a b, h)
+      subst (λ x. Puts pos (map_res f x) out (Ok (n, used)) m) (sym e) (ap₂ (λ x y. Ok (x, y)) a b, h)

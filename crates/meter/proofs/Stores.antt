@@ -1,4 +1,5 @@
 -- Cells that are stored one after another, and how many items go into a room.
+use Rattle.std.specs.Prelude.{Err}
 use mathlib.Core.List.{List, [], ◌∷◌}
 use mathlib.Core.Path.{◌≡◌, ap, ◌∙◌}
 use Prim.Native.Nat.{ℕ, zero, suc, ◌+◌, ◌-◌, ◌*◌, ◌/◌, ◌≤◌, ◌<◌}
@@ -12,7 +13,6 @@ use Rattle.rules.specs.Scan.Pass.{pass_none}
 use Rattle.rules.specs.Scan.Units.{zeros, units_at}
 use Rattle.rules.proofs.Laws.Scan.Units.{units_stop}
 use Rattle.rules.specs.declared.Limits.{Limits}
-use Rattle.rules.specs.declared.Scan.TheVariants.{Refused as stopped}
 use Rattle.rules.specs.declared.Totals.{Totals}
 
 -- n items of m cells, where so many go into the room, and where they don't
@@ -43,7 +43,7 @@ pub two_stores : (l a b : List ℕ) (k x y : ℕ) → a ≡ set l k x → b ≡ 
 two_stores l a b k x y e f = f ∙ ap (λ (j : ℕ). set a j y) (add-one k) ∙ ap (λ (m : List ℕ). set m (suc k) y) e
 
 -- units where the room is used up already
-pub units_full : (lim : Limits) (st : Totals) (at m : ℕ) → lim.cells < st.cells → units_at lim st at m ≡ pass_none (stopped (room_at at))
+pub units_full : (lim : Limits) (st : Totals) (at m : ℕ) → lim.cells < st.cells → units_at lim st at m ≡ pass_none (Err (room_at at))
 units_full lim st at m h =
     let none : lim.cells - st.cells ≡ 0 = omega arith in
-    units_stop lim st at m (omega arith) ∙ ap (λ n. record { answer = stopped (room_at at); cells = zeros n }) none
+    units_stop lim st at m (omega arith) ∙ ap (λ n. record { answer = Err (room_at at); cells = zeros n }) none

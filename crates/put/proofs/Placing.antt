@@ -1,4 +1,5 @@
 -- A leaf or bits on the way: from what `leaf_put` answers and leaves of them by themselves to what a writer does that has them further on.
+use Rattle.std.specs.Prelude.{Ok, Err}
 use mathlib.Core.List.{List}
 use mathlib.Core.Path.{◌≡◌, ap, sym, ◌∙◌, ap₂, subst}
 use Prim.Native.Nat.{ℕ, ◌+◌}
@@ -11,8 +12,7 @@ use Rattle.rules.proofs.Laws.Put.{put_most}
 use Rattle.rules.specs.Put.Relative.{shifted, Within, Relative}
 use Rattle.rules.specs.Refusals.{because}
 use Rattle.rules.specs.Types.{Ty}
-use Rattle.rules.specs.declared.Put.{Put}
-use Rattle.rules.specs.declared.Put.TheVariants.{Done as put_done, Refused as put_not}
+use Rattle.rules.specs.Put.{Put}
 use Rattle.rules.specs.declared.Refusal.{Refusal}
 use Rattle.put.proofs.Putting.{Putting}
 use Rattle.put.specs.Written.{Placeable, placed_of, Spare}
@@ -23,13 +23,13 @@ module _ (at pos : ℕ) {a : Put} where
   pub place_fits : (b : Put) → a ≡ b → Placeable at pos a → Placeable at pos b
   place_fits b e h = subst (Placeable at pos) e h
 
-  pub placed_done : {n used : ℕ} → a ≡ put_done n used → put_done (at + n) (pos + used) ≡ placed_of at pos a
+  pub placed_done : {n used : ℕ} → a ≡ Ok (n, used) → Ok (at + n, pos + used) ≡ placed_of at pos a
   unfolding placed_of
   placed_done e = ap (placed_of at pos) (sym e)
 
-  pub placed_not : {y x : Refusal} → a ≡ put_not y → x ≡ because y.number (at + y.place) → put_not x ≡ placed_of at pos a
+  pub placed_not : {y x : Refusal} → a ≡ Err y → x ≡ because y.reason (at + y.place) → Err x ≡ placed_of at pos a
   unfolding placed_of
-  placed_not e f = ap put_not f ∙ ap (placed_of at pos) (sym e)
+  placed_not e f = ap Err f ∙ ap (placed_of at pos) (sym e)
 
 -- ---- a value of type t that p puts
 
@@ -50,5 +50,5 @@ module _ (p : Parser (List ℕ)) (rel : Relative p) (at pos : ℕ) (cs : List �
       go (got l n) g f =
           let i : at + (0 + n) ≡ at + n = omega arith in
           let j : pos + (0 + length l) ≡ pos + length l = omega arith in
-          (f ∙ ap₂ put_done i j, g)
+          (f ∙ ap₂ (λ x y. Ok (x, y)) i j, g)
       go (bad y) g f = (f, tt)

@@ -1,4 +1,5 @@
 -- One part behind another: from what the parts answer and leave to what the whole does.
+use Rattle.std.specs.Prelude.{Ok, Err}
 use mathlib.Core.List.{List, ◌++◌}
 use mathlib.Core.Path.{◌≡◌, refl, sym, ◌∙◌, ap₂, subst}
 use Prim.Native.Nat.{ℕ, ◌+◌}
@@ -8,8 +9,7 @@ use lib.Seq.{sets}
 use Rattle.rules.specs.Parser.{Res, got, bad, more, next, map_res}
 use Rattle.rules.proofs.Laws.Places.{sets_join}
 use Rattle.rules.specs.Put.{ahead, put_of}
-use Rattle.rules.specs.declared.Put.{Put}
-use Rattle.rules.specs.declared.Put.TheVariants.{Done as put_done, Refused as put_not}
+use Rattle.rules.specs.Put.{Put}
 use Rattle.rules.specs.declared.Refusal.{Refusal}
 use Rattle.put.specs.Written.{Landed}
 
@@ -31,20 +31,20 @@ pub record Gone {A : Type 0} (f : A → List ℕ) (at pos : ℕ) (out m : List �
   pub leaves : m ≡ sets out pos (f value)
 
 module _ {A : Type 0} (f : A → List ℕ) (at pos : ℕ) (out m : List ℕ) where
-  pub gone : (R : Res A) (r : Put) (c e : ℕ) → Putting at pos (map_res f R) out r m → r ≡ put_done c e → Gone f at pos out m R c e
+  pub gone : (R : Res A) (r : Put) (c e : ℕ) → Putting at pos (map_res f R) out r m → r ≡ Ok (c, e) → Gone f at pos out m R c e
   unfolding map_res put_of
   gone (got v n) r c e h d =
-      let k : put_done (at + n) (pos + length (f v)) ≡ put_done c e = sym h.0 ∙ d in
+      let k : Ok (at + n, pos + length (f v)) ≡ Ok (c, e) = sym h.0 ∙ d in
       let a : at + n ≡ c = cc in
       let b : pos + length (f v) ≡ e = cc in
       record { value = v; used = n; is = refl; cell = sym a; byte = sym b; leaves = h.1 }
-  gone (bad y) r c e h d = absurd (let k : put_not y ≡ put_done c e = sym h.0 ∙ d in let z : ◌≡◌ {A = ℕ} 0 1 = cc in omega arith)
+  gone (bad y) r c e h d = absurd (let k : Err y ≡ Ok (c, e) = sym h.0 ∙ d in let z : ◌≡◌ {A = ℕ} 0 1 = cc in omega arith)
 
   module _ (q : A → ℕ → Res (List ℕ)) where
     -- a refused part refuses the whole
-    pub stops : (R : Res A) (r : Put) (y : Refusal) → Putting at pos (map_res f R) out r m → r ≡ put_not y → Putting at pos (ahead f q R) out (put_not y) m
+    pub stops : (R : Res A) (r : Put) (y : Refusal) → Putting at pos (map_res f R) out r m → r ≡ Err y → Putting at pos (ahead f q R) out (Err y) m
     unfolding map_res put_of next
-    stops (got v n) r y h d = absurd (let k : put_done (at + n) (pos + length (f v)) ≡ put_not y = sym h.0 ∙ d in let z : ◌≡◌ {A = ℕ} 0 1 = cc in omega arith)
+    stops (got v n) r y h d = absurd (let k : Ok (at + n, pos + length (f v)) ≡ Err y = sym h.0 ∙ d in let z : ◌≡◌ {A = ℕ} 0 1 = cc in omega arith)
     stops (bad z) r y h d = (sym d ∙ h.0, tt)
 
     behind : (v : A) (n c e : ℕ) → c ≡ at + n → e ≡ pos + length (f v) → m ≡ sets out pos (f v) → (Q : Res (List ℕ)) (r : Put) (l : List ℕ)
@@ -53,7 +53,7 @@ module _ {A : Type 0} (f : A → List ℕ) (at pos : ℕ) (out m : List ℕ) whe
     behind v n c e ec ee em (got x k) r l h =
         let a : c + k ≡ at + (n + k) = omega arith in
         let b : e + length x ≡ pos + length (f v ++ x) = omega (arith, length-append (f v) x) in
-        (h.0 ∙ ap₂ put_done a b, h.1 ∙ ap₂ (λ y i. sets y i x) em ee ∙ sets_join (f v) x out pos)
+        (h.0 ∙ ap₂ (λ x y. Ok (x, y)) a b, h.1 ∙ ap₂ (λ y i. sets y i x) em ee ∙ sets_join (f v) x out pos)
     behind v n c e ec ee em (bad y) r l h = (h.0, tt)
 
     -- and what follows it puts the rest

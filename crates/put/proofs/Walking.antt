@@ -1,4 +1,5 @@
 -- The walkers, kind by kind: from what the parts put to what the whole does.
+use Rattle.std.specs.Prelude.{Ok, Err}
 use mathlib.Core.Bool.{Bool, true, false}
 use mathlib.Core.List.{List, [], ◌∷◌}
 use mathlib.Core.Path.{◌≡◌, refl, ap, sym, ◌∙◌, ap₂, subst}
@@ -21,8 +22,7 @@ use Rattle.rules.specs.Wire.{leaf_bytes, encode}
 use Rattle.rules.specs.declared.Leaf.{Leaf}
 use Rattle.rules.specs.declared.Leaf.TheVariants.{Bool as bool, Compact as compact}
 use Rattle.rules.specs.declared.Node.{Node}
-use Rattle.rules.specs.declared.Put.{Put}
-use Rattle.rules.specs.declared.Put.TheVariants.{Done as put_done, Refused as put_not}
+use Rattle.rules.specs.Put.{Put}
 use Rattle.rules.specs.declared.Refusal.{Refusal}
 use Rattle.rules.specs.declared.Width.TheVariants.{W4 as w4}
 use Rattle.node.specs.Laws.{node_is}
@@ -52,7 +52,7 @@ module _ {tb : List ℕ} {node at : ℕ} {cs : List ℕ} {pos : ℕ} (W : Puttab
   pub put_node : {a : ℕ} → a < node → Puttable tb a at cs pos
   put_node h = record { good = W.good; there = omega (arith, W.there); spare = W.spare }
 
-  pub behind_item : (t : Ty) (out m : List ℕ) {r : Put} {c e : ℕ} → Putting at pos (put t at cs) out r m → r ≡ put_done c e → Behind tb node at cs c e
+  pub behind_item : (t : Ty) (out m : List ℕ) {r : Put} {c e : ℕ} → Putting at pos (put t at cs) out r m → r ≡ Ok (c, e) → Behind tb node at cs c e
   unfolding put map_res
   behind_item t out m {r} {c} {e} h d =
       let g = gone (encode t) at pos out m (unpack t at cs) r c e h d in
@@ -74,7 +74,7 @@ module _ {tb : List ℕ} {node at : ℕ} {cs : List ℕ} {pos : ℕ} (W : Puttab
         };
       }
 
-  pub behind_leaf : (k : Leaf) (out m : List ℕ) {r : Put} {c e : ℕ} → Putting at pos (put_leaf k at cs) out r m → r ≡ put_done c e → Behind tb node at cs c e
+  pub behind_leaf : (k : Leaf) (out m : List ℕ) {r : Put} {c e : ℕ} → Putting at pos (put_leaf k at cs) out r m → r ≡ Ok (c, e) → Behind tb node at cs c e
   behind_leaf k out m {r} h d = behind_item (leaf k) out m (same_put at pos (put (leaf k) at cs) (put_leaf k at cs) out m r (put_leaf_lem k at cs) h) d
 
 -- ---- the first cell, of a leaf that has one
@@ -92,7 +92,7 @@ first_cell k at cs v n z e = go cs (sym (ap (λ b. pick b (halves at cs) (one (b
         fits false h = absurd (let y : ◌≡◌ {A = ℕ} 0 1 = cc in omega arith)
 
 -- a leaf of one cell that was put has it
-pub cell_there : (k : Leaf) (at : ℕ) (cs : List ℕ) (pos : ℕ) (out m : List ℕ) {r : Put} {c e : ℕ} → wide k ≡ false → Putting at pos (put_leaf k at cs) out r m → r ≡ put_done c e → 0 < length cs
+pub cell_there : (k : Leaf) (at : ℕ) (cs : List ℕ) (pos : ℕ) (out m : List ℕ) {r : Put} {c e : ℕ} → wide k ≡ false → Putting at pos (put_leaf k at cs) out r m → r ≡ Ok (c, e) → 0 < length cs
 cell_there k at cs pos out m {r} {c} {e} z h d =
     let g = gone (leaf_bytes k) at pos out m (leaf_taken k at cs) r c e h d in
     (first_cell k at cs g.value g.used z g.is).1
@@ -101,21 +101,21 @@ cell_there k at cs pos out m {r} {c} {e} z h d =
 
 module _ (at : ℕ) (cs : List ℕ) (pos : ℕ) (out m : List ℕ) (r : Put) (P : Res (List ℕ)) where
   module _ (t : Ty) (h : Putting at pos (put t at cs) out r m) (X : Ty) (p : P ≡ ahead (encode t) (λ v n. put X (at + n) (drop n cs)) (unpack t at cs)) where
-    item_stops : (y : Refusal) → r ≡ put_not y → Putting at pos P out (put_not y) m
+    item_stops : (y : Refusal) → r ≡ Err y → Putting at pos P out (Err y) m
     unfolding put
-    item_stops y d = same_put at pos P _ out m (put_not y) p (stops (encode t) at pos out m (λ v n. put X (at + n) (drop n cs)) (unpack t at cs) r y h d)
+    item_stops y d = same_put at pos P _ out m (Err y) p (stops (encode t) at pos out m (λ v n. put X (at + n) (drop n cs)) (unpack t at cs) r y h d)
 
-    item_goes : (c e : ℕ) → r ≡ put_done c e → (q : Put) (l : List ℕ) → Putting c e (put X c (rest (c - at) cs)) m q l → Putting at pos P out q l
+    item_goes : (c e : ℕ) → r ≡ Ok (c, e) → (q : Put) (l : List ℕ) → Putting c e (put X c (rest (c - at) cs)) m q l → Putting at pos P out q l
     item_goes c e d q l f =
         let g = gone (encode t) at pos out m (unpack t at cs) r c e (unfold put in h) d in
         same_put at pos P _ out l q p (follows (encode t) at pos out m (λ v n. put X (at + n) (drop n cs)) (unpack t at cs) c e g q l
         (subst (λ x. Putting c e x m q l) (rest_at X at g.used c cs g.cell) f))
 
   module _ (k : Leaf) (h : Putting at pos (put_leaf k at cs) out r m) (F : ℕ → Parser (List ℕ)) (p : P ≡ ahead (leaf_bytes k) (λ v n. F v (at + n) (drop n cs)) (leaf_taken k at cs)) where
-    head_stops : (y : Refusal) → r ≡ put_not y → Putting at pos P out (put_not y) m
-    head_stops y d = same_put at pos P _ out m (put_not y) p (stops (leaf_bytes k) at pos out m (λ v n. F v (at + n) (drop n cs)) (leaf_taken k at cs) r y h d)
+    head_stops : (y : Refusal) → r ≡ Err y → Putting at pos P out (Err y) m
+    head_stops y d = same_put at pos P _ out m (Err y) p (stops (leaf_bytes k) at pos out m (λ v n. F v (at + n) (drop n cs)) (leaf_taken k at cs) r y h d)
 
-    head_goes : wide k ≡ false → (c e : ℕ) → r ≡ put_done c e → (X : Ty) → F (get_or cs 0 0) ≡ put X → (q : Put) (l : List ℕ)
+    head_goes : wide k ≡ false → (c e : ℕ) → r ≡ Ok (c, e) → (X : Ty) → F (get_or cs 0 0) ≡ put X → (q : Put) (l : List ℕ)
         → Putting c e (put X c (rest (c - at) cs)) m q l → Putting at pos P out q l
     head_goes z c e d X x q l f =
         let g = gone (leaf_bytes k) at pos out m (leaf_taken k at cs) r c e h d in
@@ -125,12 +125,12 @@ module _ (at : ℕ) (cs : List ℕ) (pos : ℕ) (out m : List ℕ) (r : Put) (P 
         same_put at pos P _ out l q p (follows (leaf_bytes k) at pos out m (λ v n. F v (at + n) (drop n cs)) (leaf_taken k at cs) c e g q l (subst (λ x. Putting c e x m q l) y f))
 
 -- no bytes are put of no cells
-no_more : (c e : ℕ) (P : Res (List ℕ)) (out : List ℕ) → P ≡ got [] 0 → Putting c e P out (put_done c e) out
+no_more : (c e : ℕ) (P : Res (List ℕ)) (out : List ℕ) → P ≡ got [] 0 → Putting c e P out (Ok (c, e)) out
 unfolding put_of
 no_more c e P out p =
     let a : c ≡ c + 0 = omega arith in
     let b : e ≡ e + 0 = omega arith in
-    same_put c e P (got [] 0) out out (put_done c e) p (ap₂ put_done a b, refl)
+    same_put c e P (got [] 0) out out (Ok (c, e)) p (ap₂ (λ x y. Ok (x, y)) a b, refl)
 
 -- ---- a node's value, by its kind
 
@@ -145,10 +145,10 @@ module _ {tb : List ℕ} {node at : ℕ} {cs : List ℕ} {pos : ℕ} (W : Puttab
 -- ---- an Option, a Result: behind the tag
 
 module _ (A B : Ty) (at : ℕ) (cs : List ℕ) (pos : ℕ) (out m : List ℕ) {r : Put} (h : Putting at pos (put_leaf bool at cs) out r m) where
-  pub tag_stops : {y : Refusal} → r ≡ put_not y → Putting at pos (put (result A B) at cs) out (put_not y) m
+  pub tag_stops : {y : Refusal} → r ≡ Err y → Putting at pos (put (result A B) at cs) out (Err y) m
   tag_stops {y} d = head_stops at cs pos out m r _ bool h (λ b. choose b (put A) (put B)) (put_result A B at cs) y d
 
-  module _ {c e : ℕ} (d : r ≡ put_done c e) {q : Put} (l : List ℕ) where
+  module _ {c e : ℕ} (d : r ≡ Ok (c, e)) {q : Put} (l : List ℕ) where
     pub tag_first : get_or cs 0 0 ≡ 0 → Putting c e (put A c (rest (c - at) cs)) m q l → Putting at pos (put (result A B) at cs) out q l
     tag_first z f = head_goes at cs pos out m r _ bool h (λ b. choose b (put A) (put B)) (put_result A B at cs) refl c e d A (ap (λ b. choose b (put A) (put B)) z) q l f
 
@@ -160,26 +160,26 @@ module _ (A B : Ty) (at : ℕ) (cs : List ℕ) (pos : ℕ) (out m : List ℕ) {r
         other (suc b) n = refl
 
 -- nothing is behind it
-pub tag_alone : (B : Ty) (at : ℕ) (cs : List ℕ) (pos : ℕ) (out m : List ℕ) {r : Put} → Putting at pos (put_leaf bool at cs) out r m → {c e : ℕ} → r ≡ put_done c e → get_or cs 0 0 ≡ 0
-    → Putting at pos (put (option B) at cs) out (put_done c e) m
+pub tag_alone : (B : Ty) (at : ℕ) (cs : List ℕ) (pos : ℕ) (out m : List ℕ) {r : Put} → Putting at pos (put_leaf bool at cs) out r m → {c e : ℕ} → r ≡ Ok (c, e) → get_or cs 0 0 ≡ 0
+    → Putting at pos (put (option B) at cs) out (Ok (c, e)) m
 tag_alone B at cs pos out m h {c} {e} d z = tag_first nothing B at cs pos out m h d m z (no_more c e _ m (put_nothing c (rest (c - at) cs)))
 
 -- ---- a pair: behind the first
 
 module _ (A B : Ty) (at : ℕ) (cs : List ℕ) (pos : ℕ) (out m : List ℕ) {r : Put} (h : Putting at pos (put A at cs) out r m) where
-  pub pair_stops : {y : Refusal} → r ≡ put_not y → Putting at pos (put (pair A B) at cs) out (put_not y) m
+  pub pair_stops : {y : Refusal} → r ≡ Err y → Putting at pos (put (pair A B) at cs) out (Err y) m
   pair_stops {y} d = item_stops at cs pos out m r _ A h B (put_pair A B at cs) y d
 
-  pub pair_goes : {c e : ℕ} → r ≡ put_done c e → {q : Put} (l : List ℕ) → Putting c e (put B c (rest (c - at) cs)) m q l → Putting at pos (put (pair A B) at cs) out q l
+  pub pair_goes : {c e : ℕ} → r ≡ Ok (c, e) → {q : Put} (l : List ℕ) → Putting c e (put B c (rest (c - at) cs)) m q l → Putting at pos (put (pair A B) at cs) out q l
   pair_goes {c} {e} d {q} l f = item_goes at cs pos out m r _ A h B (put_pair A B at cs) c e d q l f
 
 -- ---- a vector: behind the count
 
 module _ (A : Ty) (at : ℕ) (cs : List ℕ) (pos : ℕ) (out m : List ℕ) {r : Put} (h : Putting at pos (put_leaf (compact w4) at cs) out r m) where
-  pub vector_stops : {y : Refusal} → r ≡ put_not y → Putting at pos (put (vector A) at cs) out (put_not y) m
+  pub vector_stops : {y : Refusal} → r ≡ Err y → Putting at pos (put (vector A) at cs) out (Err y) m
   vector_stops {y} d = head_stops at cs pos out m r _ (compact w4) h (λ n. put (array n A)) (put_vector A at cs) y d
 
-  pub vector_goes : {c e : ℕ} → r ≡ put_done c e → {q : Put} (l : List ℕ) → Putting c e (put (array (get_or cs 0 0) A) c (rest (c - at) cs)) m q l → Putting at pos (put (vector A) at cs) out q l
+  pub vector_goes : {c e : ℕ} → r ≡ Ok (c, e) → {q : Put} (l : List ℕ) → Putting c e (put (array (get_or cs 0 0) A) c (rest (c - at) cs)) m q l → Putting at pos (put (vector A) at cs) out q l
   vector_goes {c} {e} d {q} l f = head_goes at cs pos out m r _ (compact w4) h (λ n. put (array n A)) (put_vector A at cs) refl c e d (array (get_or cs 0 0) A) refl q l f
 
 -- ---- items: what the items left put is what is left to do
@@ -190,9 +190,9 @@ pub record Looping (tb : List ℕ) (node count at : ℕ) (cs : List ℕ) (pos : 
   pub leaves : (r : Put) (l : List ℕ) → Putting next end (put (array left (ty_at tb node)) next over) out r l → Putting at pos (put (array count (ty_at tb node)) at cs) out₀ r l
 
 module _ {tb : List ℕ} {node count at : ℕ} {cs : List ℕ} {pos : ℕ} {out₀ out over : List ℕ} {next end left : ℕ} (I : Looping tb node count at cs pos out₀ out over next end left) where
-  pub loop_done : left ≡ 0 → Putting at pos (put (array count (ty_at tb node)) at cs) out₀ (put_done next end) out
+  pub loop_done : left ≡ 0 → Putting at pos (put (array count (ty_at tb node)) at cs) out₀ (Ok (next, end)) out
   loop_done z =
-      I.leaves (put_done next end) out
+      I.leaves (Ok (next, end)) out
       (no_more next end _ out (ap (λ n. put (array n (ty_at tb node)) next over) z ∙ put_none (ty_at tb node) next over))
 
   module _ (some : 0 < left) (m : List ℕ) {r : Put} (h : Putting next end (put (ty_at tb node) next over) out r m) where
@@ -202,10 +202,10 @@ module _ {tb : List ℕ} {node count at : ℕ} {cs : List ℕ} {pos : ℕ} {out�
         let k : left ≡ suc (left - 1) = omega arith in
         ap (λ n. put (array n (ty_at tb node)) next over) k ∙ put_more (left - 1) (ty_at tb node) next over
 
-    pub loop_stops : {y : Refusal} → r ≡ put_not y → Putting at pos (put (array count (ty_at tb node)) at cs) out₀ (put_not y) m
-    loop_stops {y} d = I.leaves (put_not y) m (item_stops next over end out m r _ (ty_at tb node) h (array (left - 1) (ty_at tb node)) more_is y d)
+    pub loop_stops : {y : Refusal} → r ≡ Err y → Putting at pos (put (array count (ty_at tb node)) at cs) out₀ (Err y) m
+    loop_stops {y} d = I.leaves (Err y) m (item_stops next over end out m r _ (ty_at tb node) h (array (left - 1) (ty_at tb node)) more_is y d)
 
-    pub loop_again : {c e : ℕ} → r ≡ put_done c e → Looping tb node count at cs pos out₀ m (rest (c - next) over) c e (left - 1)
+    pub loop_again : {c e : ℕ} → r ≡ Ok (c, e) → Looping tb node count at cs pos out₀ m (rest (c - next) over) c e (left - 1)
     loop_again {c} {e} d = record {
       going = (behind_item I.going (ty_at tb node) out m h d).further;
       size =

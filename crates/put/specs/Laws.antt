@@ -1,5 +1,5 @@
 -- Of a part by a table: what is put of it, and what writing it answers.
-use Rattle.std.specs.Prelude.{List, ◌≡◌, ℕ, length}
+use Rattle.std.specs.Prelude.{List, ◌≡◌, ℕ, length, Err}
 use Rattle.std.proofs.Math.Path.{refl}
 use Rattle.std.proofs.Common.{ap, sym, ◌∙◌}
 use Rattle.rules.specs.Jobs.{not, put_out, output, write_cells, of_vector, write_items}
@@ -9,8 +9,7 @@ use Rattle.rules.proofs.Laws.Put.{output_put}
 use Rattle.rules.specs.Refusals.{append_root}
 use Rattle.rules.specs.Table.{root, check_table, after_check}
 use Rattle.rules.specs.Types.{Ty, leaf, nothing, result, pair, array, vector, bits}
-use Rattle.rules.specs.declared.Check.{Check}
-use Rattle.rules.specs.declared.Check.TheVariants.{Fine as fine, Refused as wrong}
+use Rattle.rules.specs.Table.{Check}
 use Rattle.rules.specs.declared.Refusal.{Refusal}
 use Rattle.put.specs.Written.{Part, whole_root, root_items, part_put, part_in, part_out}
 
@@ -18,7 +17,7 @@ pub in_fine : (part : Part) (tb cs : List ℕ) → check_table tb ≡ fine → p
 unfolding part_in
 in_fine part tb cs e = ap (λ x. after_check x bad (part_put part (root tb) cs)) e
 
-pub in_refused : (part : Part) (tb cs : List ℕ) (y : Refusal) → check_table tb ≡ wrong y → part_in part tb cs ≡ bad y
+pub in_refused : (part : Part) (tb cs : List ℕ) (y : Refusal) → check_table tb ≡ Err y → part_in part tb cs ≡ bad y
 unfolding part_in
 in_refused part tb cs y e = ap (λ x. after_check x bad (part_put part (root tb) cs)) e
 
@@ -37,7 +36,7 @@ part_out_lem (root_items k) tb cs room e = ap (λ x. after_check x not (of_vecto
     go (array n t) = unfold put_out in refl
     go bits = unfold put_out in refl
 
-part_refused : (part : Part) (tb cs : List ℕ) (room : ℕ) (y : Refusal) → check_table tb ≡ wrong y → part_out part tb cs room ≡ not y
+part_refused : (part : Part) (tb cs : List ℕ) (room : ℕ) (y : Refusal) → check_table tb ≡ Err y → part_out part tb cs room ≡ not y
 unfolding write_cells write_items
 part_refused whole_root tb cs room y e = ap (λ x. after_check x not (output (root tb) cs room)) e
 part_refused (root_items k) tb cs room y e = ap (λ x. after_check x not (of_vector (λ t. output (array k t) cs room) (not append_root) (root tb))) e
@@ -49,4 +48,4 @@ part_in_lem part tb cs room = go (check_table tb) refl
   where
     go : (x : Check) → check_table tb ≡ x → part_out part tb cs room ≡ put_out (length cs) room (λ l. l) (part_in part tb cs)
     go fine e = part_out_lem part tb cs room e ∙ ap (put_out (length cs) room (λ l. l)) (sym (in_fine part tb cs e))
-    go (wrong y) e = part_refused part tb cs room y e ∙ sym (ap (put_out (length cs) room (λ l. l)) (in_refused part tb cs y e))
+    go (Err y) e = part_refused part tb cs room y e ∙ sym (ap (put_out (length cs) room (λ l. l)) (in_refused part tb cs y e))

@@ -1,5 +1,5 @@
 -- What the writer's parts answer and leave, and what they need.
-use Rattle.std.specs.Prelude.{List, ◌≡◌, ℕ, ◌+◌, ◌*◌, ◌^◌, ◌<◌, length}
+use Rattle.std.specs.Prelude.{List, ◌≡◌, ℕ, ◌+◌, ◌*◌, ◌^◌, ◌<◌, length, Ok, Err}
 use Rattle.std.proofs.lemmas.List.Edits.{sets}
 use Rattle.rules.specs.Basics.{Under}
 use Rattle.rules.specs.Jobs.{Output, write_cells, of_vector, write_items}
@@ -9,8 +9,7 @@ use Rattle.rules.specs.Refusals.{because, append_root}
 use Rattle.rules.specs.Table.{count, root, check_table, after_check}
 use Rattle.rules.specs.Table.Laws.{Good}
 use Rattle.rules.specs.Types.{Ty, array}
-use Rattle.rules.specs.declared.Put.{Put}
-use Rattle.rules.specs.declared.Put.TheVariants.{Done as put_done, Refused as put_not}
+use Rattle.rules.specs.Put.{Put}
 pub use Rattle.put.specs.declared.Part.{Part}
 pub use Rattle.put.specs.declared.Part.TheVariants.{Root as whole_root, Items as root_items}
 
@@ -21,12 +20,12 @@ Landed pos (bad y) out later = Prim.Unit {0}
 
 -- an answer that counts from a value's own first cell and byte, where these are at `at` and `pos`; and that its numbers fit there
 unfoldable pub placed_of : ℕ → ℕ → Put → Put
-placed_of at pos (put_done n used) = put_done (at + n) (pos + used)
-placed_of at pos (put_not y) = put_not (because y.number (at + y.place))
+placed_of at pos (Ok (n, used)) = Ok (at + n, pos + used)
+placed_of at pos (Err y) = Err (because y.reason (at + y.place))
 
 abbrev pub Placeable : ℕ → ℕ → Put → Type 0
-Placeable at pos (put_done n used) = (at + n < 2 ^ 64) × (pos + used < 2 ^ 64)
-Placeable at pos (put_not y) = at + y.place < 2 ^ 64
+Placeable at pos (Ok (n, used)) = (at + n < 2 ^ 64) × (pos + used < 2 ^ 64)
+Placeable at pos (Err y) = at + y.place < 2 ^ 64
 
 -- 64-bit cells, with indices of cells and bytes that fit: each cell gives at most nine bytes
 pub record Spare (at : ℕ) (cs : List ℕ) (pos : ℕ) : Type 0 where

@@ -1,6 +1,7 @@
 -- What is proved of every report: how long it is, and what it says of the value that was read; and that the contracts allow no other.
-use Rattle.std.specs.Prelude.{List, ◌++◌, [], ◌∷◌, ◌≡◌, refl, ℕ, ◌+◌, ◌*◌, ◌≤◌, length, drop, take}
+use Rattle.std.specs.Prelude.{List, ◌++◌, [], ◌∷◌, ◌≡◌, refl, ℕ, ◌+◌, ◌*◌, ◌≤◌, length, drop, take, Ok, Err}
 use Rattle.std.proofs.Common.{ap, sym, ◌∙◌, arith, length-append, take_at}
+use Rattle.rules.specs.Refusals.{number_of}
 use Rattle.rules.specs.Basics.{flat, onto}
 use Rattle.rules.specs.Cells.{cells}
 use Rattle.rules.proofs.Laws.Demands.{whole_accepts, whole_accepted, whole_decided}
@@ -15,8 +16,7 @@ use Rattle.rules.specs.Table.Laws.{Good}
 use Rattle.rules.specs.Types.{Val}
 use Rattle.rules.specs.Wire.{read}
 use Rattle.rules.specs.declared.Refusal.{Refusal}
-use Rattle.rules.specs.declared.Scan.{Scan}
-use Rattle.rules.specs.declared.Scan.TheVariants.{Done as done, Refused as stopped}
+use Rattle.rules.specs.Scan.{Scan}
 use Rattle.rules.specs.declared.Totals.{Totals}
 use Rattle.report.specs.Text.{decimal, spaced, line_of, ok, refused, ok_line, refused_line, cell_line, report_lines, program_limits, report_of, unreadable, most_bytes}
 use Rattle.report.specs.Numerals.{decimal_short}
@@ -44,16 +44,16 @@ cells_length (v ∷ cs) = omega (arith, length-append (line_of (decimal v) []) (
 -- ---- the report on a message
 
 -- a refusal is one line
-pub report_refused : (tb s : List ℕ) (y : Refusal) → read_whole tb s program_limits ≡ stopped y → report_of tb s ≡ refused_line y.number y.place
+pub report_refused : (tb s : List ℕ) (y : Refusal) → read_whole tb s program_limits ≡ Err y → report_of tb s ≡ refused_line number_of y.reason y.place
 unfolding report_of report_lines
 report_refused tb s y e = ap (λ a. report_lines a (scanned (root tb) program_limits s)) e
 
-pub report_done : (tb s : List ℕ) (u : Totals) (n : ℕ) → read_whole tb s program_limits ≡ done u n → report_of tb s ≡ ok_line u n ++ flat cell_line (scanned (root tb) program_limits s)
+pub report_done : (tb s : List ℕ) (u : Totals) (n : ℕ) → read_whole tb s program_limits ≡ Ok (u, n) → report_of tb s ≡ ok_line u n ++ flat cell_line (scanned (root tb) program_limits s)
 unfolding report_of report_lines
 report_done tb s u n e = ap (λ a. report_lines a (scanned (root tb) program_limits s)) e
 
 -- the cells that were passed are the value's
-whole_cells : (tb s : List ℕ) (u : Totals) (n : ℕ) (v : Val (root tb)) (k : ℕ) → read_whole tb s program_limits ≡ done u n → read (root tb) 0 s ≡ got v k
+whole_cells : (tb s : List ℕ) (u : Totals) (n : ℕ) (v : Val (root tb)) (k : ℕ) → read_whole tb s program_limits ≡ Ok (u, n) → read (root tb) 0 s ≡ got v k
     → scanned (root tb) program_limits s ≡ cells (root tb) v
 whole_cells tb s u n v k e r = passed (root tb) program_limits s v u k n r (whole_decided tb s program_limits u n e).1
 
@@ -65,14 +65,14 @@ report_accepts tb s g v a =
     report_done tb s (answer (root tb) v) (length s) e ∙ ap (λ l. ok_line (answer (root tb) v) (length s) ++ flat cell_line l) (whole_cells tb s (answer (root tb) v) (length s) v (length s) e a.reads)
 
 -- and no other message is accepted
-pub report_accepted : (tb s : List ℕ) (u : Totals) (n : ℕ) → read_whole tb s program_limits ≡ done u n
+pub report_accepted : (tb s : List ℕ) (u : Totals) (n : ℕ) → read_whole tb s program_limits ≡ Ok (u, n)
     → Good tb × ((v : Val (root tb)) × Accepted (root tb) program_limits s v (length s) × (report_of tb s ≡ ok_line (answer (root tb) v) (length s) ++ flat cell_line (cells (root tb) v)))
 report_accepted tb s u n e =
     let w = whole_accepted tb s program_limits (omega arith) u n e in
     (w.0, (w.1.0, w.1.1, report_accepts tb s w.0 w.1.0 w.1.1))
 
 -- the cells that were passed are as many as were counted, and at most C
-pub cells_counted : (tb s : List ℕ) (u : Totals) (n : ℕ) → read_whole tb s program_limits ≡ done u n → (u.cells ≡ length (scanned (root tb) program_limits s)) × (u.cells ≤ 4096)
+pub cells_counted : (tb s : List ℕ) (u : Totals) (n : ℕ) → read_whole tb s program_limits ≡ Ok (u, n) → (u.cells ≡ length (scanned (root tb) program_limits s)) × (u.cells ≤ 4096)
 cells_counted tb s u n e =
     let w = (whole_accepted tb s program_limits (omega arith) u n e).1 in
     let counts : u.cells ≡ length (cells (root tb) w.0) = ap (λ (x : Totals). x.cells) w.2 in
@@ -83,8 +83,8 @@ pub report_fits : (tb s : List ℕ) → length (report_of tb s) ≤ most_bytes
 report_fits tb s = go (read_whole tb s program_limits) refl
   where
     go : (a : Scan) → read_whole tb s program_limits ≡ a → length (report_of tb s) ≤ most_bytes
-    go (stopped y) e = omega (arith, ap length (report_refused tb s y e), refused_length y.number y.place)
-    go (done u n) e =
+    go (Err y) e = omega (arith, ap length (report_refused tb s y e), refused_length number_of y.reason y.place)
+    go (Ok (u, n)) e =
         let l = flat cell_line (scanned (root tb) program_limits s) in
         let c = cells_counted tb s u n e in
         omega (arith, ap length (report_done tb s u n e), length-append (ok_line u n) l, ok_length u n, cells_length (scanned (root tb) program_limits s), c.0, c.1)

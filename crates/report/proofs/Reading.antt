@@ -1,18 +1,19 @@
 -- From the reading into 4096 cells to the report: r is its answer, and m the cells afterwards.
+use Rattle.std.specs.Prelude.{Ok, Err}
 use mathlib.Core.List.{List, ◌++◌}
 use mathlib.Core.Path.{◌≡◌, ap, sym, ◌∙◌}
 use Prim.Native.Nat.{ℕ, ◌≤◌}
 use native.Mathlib.Omega.{arith}
 use lib.ListN.{length, take, drop, length-take, replicate, length-replicate}
 use lib.Seq.{take_at}
+use Rattle.rules.specs.Refusals.{number_of}
 use Rattle.rules.specs.Basics.{flat, onto}
 use Rattle.rules.specs.Jobs.{read_whole, cut_to, cells_after}
 use Rattle.rules.specs.Scan.{scanned}
 use Rattle.rules.specs.Table.{root}
 use Rattle.rules.specs.declared.Limits.{Limits}
 use Rattle.rules.specs.declared.Refusal.{Refusal}
-use Rattle.rules.specs.declared.Scan.{Scan}
-use Rattle.rules.specs.declared.Scan.TheVariants.{Done as done, Refused as stopped}
+use Rattle.rules.specs.Scan.{Scan}
 use Rattle.rules.specs.declared.Totals.{Totals}
 use Rattle.report.specs.Text.{ok_line, refused_line, cell_line, program_limits, report_of}
 use Rattle.report.specs.Puts.{Puts}
@@ -35,22 +36,22 @@ module _ (tb s m : List ℕ) (r : Scan) (f : Filled tb s m r) where
   answered : (a : Scan) → r ≡ a → read_whole tb s program_limits ≡ a
   answered a e = ap (read_whole tb s) (sym uncut) ∙ sym f.0 ∙ e
 
-  pub refused_put : (y : Refusal) (out text : List ℕ) (k : ℕ) → r ≡ stopped y → Puts (refused_line y.number y.place) 0 out k text → Puts (report_of tb s) 0 out k text
-  refused_put y out text k e p = same_text (sym (report_refused tb s y (answered (stopped y) e))) p
+  pub refused_put : (y : Refusal) (out text : List ℕ) (k : ℕ) → r ≡ Err y → Puts (refused_line number_of y.reason y.place) 0 out k text → Puts (report_of tb s) 0 out k text
+  refused_put y out text k e p = same_text (sym (report_refused tb s y (answered (Err y) e))) p
 
   -- the counted cells are there, and are those that were passed
-  pub cells_there : (u : Totals) (n : ℕ) → r ≡ done u n → (u.cells ≤ 4096) × (take u.cells m ≡ scanned (root tb) program_limits s)
+  pub cells_there : (u : Totals) (n : ℕ) → r ≡ Ok (u, n) → (u.cells ≤ 4096) × (take u.cells m ≡ scanned (root tb) program_limits s)
   cells_there u n e =
-      let c = cells_counted tb s u n (answered (done u n) e) in
+      let c = cells_counted tb s u n (answered (Ok (u, n)) e) in
       let passed : List ℕ = scanned (root tb) program_limits s in
       let w : m ≡ onto passed blank =
       f.1 ∙ ap (λ (a : Scan). cells_after (scanned (root tb) (cut_to (length blank) program_limits) s) a blank) e
       ∙ ap (λ (x : Limits). onto (scanned (root tb) x s) blank) uncut in
       (c.1, ap (take u.cells) w ∙ take_at passed (drop (length passed) blank) u.cells (sym c.0))
 
-  pub done_put : (u : Totals) (n : ℕ) (out text : List ℕ) (k : ℕ) → r ≡ done u n → Puts (ok_line u n ++ flat cell_line (take u.cells m)) 0 out k text → Puts (report_of tb s) 0 out k text
+  pub done_put : (u : Totals) (n : ℕ) (out text : List ℕ) (k : ℕ) → r ≡ Ok (u, n) → Puts (ok_line u n ++ flat cell_line (take u.cells m)) 0 out k text → Puts (report_of tb s) 0 out k text
   done_put u n out text k e p =
-      same_text (ap (λ (l : List ℕ). ok_line u n ++ flat cell_line l) (cells_there u n e).1 ∙ sym (report_done tb s u n (answered (done u n) e))) p
+      same_text (ap (λ (l : List ℕ). ok_line u n ++ flat cell_line l) (cells_there u n e).1 ∙ sym (report_done tb s u n (answered (Ok (u, n)) e))) p
 
 -- so many cells at most
 pub cut_short : (k : ℕ) (m : List ℕ) → k ≤ 4096 → length (take k m) ≤ 4096

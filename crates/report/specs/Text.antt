@@ -1,13 +1,13 @@
 -- What the program prints, as a list of ASCII codes.
-use Rattle.std.specs.Prelude.{List, ◌++◌, [], ◌∷◌, ℕ, zero, suc, ◌+◌, ◌*◌, ◌/◌, ◌%◌, ltb}
+use Rattle.std.specs.Prelude.{List, ◌++◌, [], ◌∷◌, ℕ, zero, suc, ◌+◌, ◌*◌, ◌/◌, ◌%◌, ltb, Ok, Err}
 use Rattle.io.specs.Digits.{hex_digit_ascii}
+use Rattle.rules.specs.Refusals.{number_of}
 use Rattle.rules.specs.Basics.{pick, flat}
 use Rattle.rules.specs.Jobs.{read_whole}
 use Rattle.rules.specs.Scan.{scanned}
 use Rattle.rules.specs.Table.{root}
 use Rattle.rules.specs.declared.Limits.{Limits}
-use Rattle.rules.specs.declared.Scan.{Scan}
-use Rattle.rules.specs.declared.Scan.TheVariants.{Done as done, Refused as stopped}
+use Rattle.rules.specs.Scan.{Scan}
 use Rattle.rules.specs.declared.Totals.{Totals}
 
 -- ---- lines
@@ -50,8 +50,8 @@ cell_line v = line_of (decimal v) []
 -- ---- reports
 
 unfoldable pub report_lines : Scan → List ℕ → List ℕ
-report_lines (done u n) cs = ok_line u n ++ flat cell_line cs
-report_lines (stopped y) cs = refused_line y.number y.place
+report_lines (Ok (u, n)) cs = ok_line u n ++ flat cell_line cs
+report_lines (Err y) cs = refused_line number_of y.reason y.place
 
 -- D, M and C of the program
 abbrev pub program_limits : Limits

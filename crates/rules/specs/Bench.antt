@@ -1,10 +1,10 @@
 -- The starred plans of the bench as one table, and when a plan is answered rightly.
-use Rattle.std.specs.Prelude.{true, false, List, [], ◌∷◌, ◌≡◌, ℕ, ◌-◌, ◌^◌, length}
+use Rattle.std.specs.Prelude.{true, false, List, [], ◌∷◌, ◌≡◌, ℕ, ◌-◌, ◌^◌, length, Ok, Err}
 use Rattle.rules.specs.Refusals.{range_at, bit_count_at, depth_at, memory_at}
 use Rattle.rules.specs.Types.{w2, w4, fixed, compact, Ty, leaf, vector, bits, Val}
 use Rattle.rules.specs.Parser.{got}
 use Rattle.rules.specs.Wire.{encode, read}
-use Rattle.rules.specs.Scan.{Scan, done, stopped, scan}
+use Rattle.rules.specs.Scan.{Scan, scan}
 
 pub data Plan : Type 0 where
   -- a value, and the bytes that are written for it and read as it
@@ -33,12 +33,12 @@ starred_plans =
     ∷ number 16384 (0x02 ∷ 0x00 ∷ 0x01 ∷ 0x00 ∷ [])
     ∷ number (2 ^ 30 - 1) (0xfe ∷ 0xff ∷ 0xff ∷ 0xff ∷ [])
     ∷ number (2 ^ 30) (0x03 ∷ 0x00 ∷ 0x00 ∷ 0x00 ∷ 0x40 ∷ [])
-    ∷ gives (leaf (compact w4)) (0x03 ∷ 0xff ∷ 0xff ∷ 0xff ∷ 0x3f ∷ []) 0 0 (stopped (range_at 0))
+    ∷ gives (leaf (compact w4)) (0x03 ∷ 0xff ∷ 0xff ∷ 0xff ∷ 0x3f ∷ []) 0 0 (Err (range_at 0))
     ∷ says bits (true ∷ false ∷ true ∷ []) (0x0c ∷ 0x05 ∷ [])
     ∷ reads_as bits (0x0c ∷ 0xfd ∷ []) (true ∷ false ∷ true ∷ [])
-    ∷ gives bits (0xfe ∷ 0xff ∷ 0xff ∷ 0x7f ∷ []) 0 0 (stopped (depth_at 0))
-    ∷ gives bits (0x02 ∷ 0x00 ∷ 0x00 ∷ 0x80 ∷ []) 0 0 (stopped (bit_count_at 0))
-    ∷ gives shorts (0x00 ∷ []) 0 0 (stopped (depth_at 0))
-    ∷ gives shorts (0x00 ∷ []) 1 0 (stopped (memory_at 0))
-    ∷ gives shorts (0x00 ∷ []) 1 1 (done (record { depth = 1; charge = 0; cells = 1 }) 1)
+    ∷ gives bits (0xfe ∷ 0xff ∷ 0xff ∷ 0x7f ∷ []) 0 0 (Err (depth_at 0))
+    ∷ gives bits (0x02 ∷ 0x00 ∷ 0x00 ∷ 0x80 ∷ []) 0 0 (Err (bit_count_at 0))
+    ∷ gives shorts (0x00 ∷ []) 0 0 (Err (depth_at 0))
+    ∷ gives shorts (0x00 ∷ []) 1 0 (Err (memory_at 0))
+    ∷ gives shorts (0x00 ∷ []) 1 1 (Ok (record { depth = 1; charge = 0; cells = 1 }, 1))
     ∷ []

@@ -1,26 +1,22 @@
 -- The whole jobs, as the public functions do them: the table's check first, then the job at its root. A contract says that a function's answer is the one given
 -- here, and that the memory it was lent is as given here afterwards.
-use Rattle.std.specs.Prelude.{List, ◌++◌, [], ◌∷◌, ℕ, ◌+◌, min, ltb, leb, length, drop, take}
-use Rattle.rules.specs.Refusals.{Refusal, because, output_small, cells_left_at, append_root, append_used, append_head, append_count, max_count}
+use Rattle.std.specs.Prelude.{List, ◌++◌, [], ◌∷◌, ℕ, ◌+◌, min, ltb, leb, length, drop, take, Ok, Err, Some, None}
+use Rattle.rules.specs.Refusals.{Refusal, Answer, number_of, output_small, cells_left_at, append_root, append_used, append_head, append_count, max_count}
 use Rattle.rules.specs.Basics.{pick, flat, onto}
 use Rattle.rules.specs.Types.{w4, compact, Ty, leaf, nothing, result, pair, array, vector, bits, Val}
 use Rattle.rules.specs.Parser.{Res, got, bad, times}
 use Rattle.rules.specs.Wire.{leaf_bytes, encode, leaf_from}
 use Rattle.rules.specs.Cells.{unpack}
-use Rattle.rules.specs.Scan.{Limits, Scan, done, stopped, scan, scan_all}
-use Rattle.rules.specs.Table.{Check, fine, wrong, root, check_table, after_check}
-use Rattle.rules.specs.declared.Longest.{Longest}
-use Rattle.rules.specs.declared.Longest.TheVariants.{Bytes as at_most, Unbounded as unbounded, Refused as no_longest}
-pub use Rattle.rules.specs.declared.Written.{Written}
-pub use Rattle.rules.specs.declared.Written.TheVariants.{Bytes as wrote_bytes, Refused as not_written}
+use Rattle.rules.specs.Scan.{Limits, Scan, scan, scan_all}
+use Rattle.rules.specs.Table.{Check, Longest, root, check_table, after_check}
 
 -- ---- reading: at the front of a message, or the whole of it. A job that lends no cells takes C as given.
 
 unfoldable pub read_front : List ℕ → List ℕ → Limits → Scan
-read_front tb s lim = after_check (check_table tb) stopped (scan (root tb) lim s)
+read_front tb s lim = after_check (check_table tb) Err (scan (root tb) lim s)
 
 unfoldable pub read_whole : List ℕ → List ℕ → Limits → Scan
-read_whole tb s lim = after_check (check_table tb) stopped (scan_all (root tb) lim s)
+read_whole tb s lim = after_check (check_table tb) Err (scan_all (root tb) lim s)
 
 -- C is cut to the lent cells
 abbrev pub cut_to : ℕ → Limits → Limits
@@ -28,8 +24,8 @@ cut_to n lim = record { depth = lim.depth; memory = lim.memory; cells = min lim.
 
 -- the lent cells afterwards: an accepted value's cells stand at the front, and the others stay; a refusal leaves all
 abbrev pub cells_after : List ℕ → Scan → List ℕ → List ℕ
-cells_after new (done st n) l = onto new l
-cells_after new (stopped y) l = l
+cells_after new (Ok (st, n)) l = onto new l
+cells_after new (Err y) l = l
 
 -- ---- writing
 
@@ -68,10 +64,14 @@ of_vector f a bits = a
 unfoldable pub write_items : List ℕ → ℕ → List ℕ → ℕ → Output
 write_items tb k cs room = after_check (check_table tb) not (of_vector (λ t. output (array k t) cs room) (not append_root) (root tb))
 
+-- what writing and append answer: how many bytes are used now
+abbrev pub Written : Type 0
+Written = Answer ℕ
+
 -- the answer, and the output afterwards: bytes past the written length stay, and a refusal leaves all
 abbrev pub written_of : Output → Written
-written_of (wrote l) = wrote_bytes (length l)
-written_of (not y) = not_written y
+written_of (wrote l) = Ok (length l)
+written_of (not y) = Err y
 
 abbrev pub output_after : Output → List ℕ → List ℕ
 output_after (wrote l) out = onto l out
@@ -114,21 +114,21 @@ pub record Fields : Type 0 where
   pub depth : ℕ
 
 abbrev pub refused_fields : Refusal → Fields
-refused_fields y = record { number = y.number; place = y.place; bytes = 0; cells = 0; charge = 0; depth = 0 }
+refused_fields y = record { number = number_of y.reason; place = y.place; bytes = 0; cells = 0; charge = 0; depth = 0 }
 
 abbrev pub read_fields : Scan → Fields
-read_fields (done st n) = record { number = 0; place = 0; bytes = n; cells = st.cells; charge = st.charge; depth = st.depth }
-read_fields (stopped y) = refused_fields y
+read_fields (Ok (st, n)) = record { number = 0; place = 0; bytes = n; cells = st.cells; charge = st.charge; depth = st.depth }
+read_fields (Err y) = refused_fields y
 
 -- writing and append answer number, place and bytes
 abbrev pub written_fields : Written → Fields
-written_fields (wrote_bytes n) = record { number = 0; place = 0; bytes = n; cells = 0; charge = 0; depth = 0 }
-written_fields (not_written y) = refused_fields y
+written_fields (Ok n) = record { number = 0; place = 0; bytes = n; cells = 0; charge = 0; depth = 0 }
+written_fields (Err y) = refused_fields y
 
 -- the check answers number and place
 abbrev pub check_fields : Check → Fields
-check_fields fine = refused_fields (because 0 0)
-check_fields (wrong y) = refused_fields y
+check_fields (Ok u) = record { number = 0; place = 0; bytes = 0; cells = 0; charge = 0; depth = 0 }
+check_fields (Err y) = refused_fields y
 
 -- a longest length: whether there is one, and how many bytes
 pub record Length : Type 0 where
@@ -138,6 +138,6 @@ pub record Length : Type 0 where
   pub bytes : ℕ
 
 abbrev pub longest_fields : Longest → Length
-longest_fields (at_most n) = record { number = 0; place = 0; has = 1; bytes = n }
-longest_fields unbounded = record { number = 0; place = 0; has = 0; bytes = 0 }
-longest_fields (no_longest y) = record { number = y.number; place = y.place; has = 0; bytes = 0 }
+longest_fields (Ok (Some n)) = record { number = 0; place = 0; has = 1; bytes = n }
+longest_fields (Ok None) = record { number = 0; place = 0; has = 0; bytes = 0 }
+longest_fields (Err y) = record { number = number_of y.reason; place = y.place; has = 0; bytes = 0 }

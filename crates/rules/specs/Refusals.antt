@@ -1,81 +1,111 @@
--- The refusals by name: each has its number, and a place where one goes with it. (The code has the numbers under the names in src/lib.rt.)
-use Rattle.std.specs.Prelude.{ℕ}
+-- The refusals by name: each has its reason, which says its number, and a place where one goes with it.
+use Rattle.std.specs.Prelude.{ℕ, Result}
+use Rattle.rules.specs.declared.Reason.TheVariants.{TableMark, TableSize, TableNode, TableFootprint, Short, Tag, CompactPrefix, CompactRange, BitCount, Depth, Memory, Cells, BytesLeft, CellsShort, CellUnfit, OutputSmall, CellsLeft, AppendRoot, AppendUsed, AppendHead, AppendCount}
+pub use Rattle.rules.specs.declared.Reason.{Reason}
 pub use Rattle.rules.specs.declared.Refusal.{Refusal}
 
-abbrev pub because : ℕ → ℕ → Refusal
-because n p = record { number = n; place = p }
+-- what every job answers: what it gives, or why it is refused
+abbrev pub Answer : Type 0 → Type 0
+Answer A = Result A Refusal
+
+abbrev pub because : Reason → ℕ → Refusal
+because r p = record { reason = r; place = p }
+
+-- THE NUMBERS of the refusals
+abbrev pub number_of : Reason → ℕ
+number_of TableMark = 1
+number_of TableSize = 2
+number_of TableNode = 3
+number_of TableFootprint = 4
+number_of Short = 10
+number_of Tag = 11
+number_of CompactPrefix = 12
+number_of CompactRange = 13
+number_of BitCount = 14
+number_of Depth = 15
+number_of Memory = 16
+number_of Cells = 17
+number_of BytesLeft = 18
+number_of CellsShort = 20
+number_of CellUnfit = 21
+number_of OutputSmall = 22
+number_of CellsLeft = 23
+number_of AppendRoot = 30
+number_of AppendUsed = 31
+number_of AppendHead = 32
+number_of AppendCount = 33
 
 -- ---- of a table; the place of the last two is the node's index
 
 abbrev pub table_mark : Refusal
-table_mark = because 1 0
+table_mark = because TableMark 0
 
 abbrev pub table_size : Refusal
-table_size = because 2 0
+table_size = because TableSize 0
 
 abbrev pub wrong_node_at : ℕ → Refusal
-wrong_node_at i = because 3 i
+wrong_node_at i = because TableNode i
 
 abbrev pub footprint_at : ℕ → Refusal
-footprint_at i = because 4 i
+footprint_at i = because TableFootprint i
 
 -- ---- of a message; the place is the offset of the item's first byte, and for 18 of the first byte left over
 
 abbrev pub short_at : ℕ → Refusal
-short_at at = because 10 at
+short_at at = because Short at
 
 abbrev pub tag_at : ℕ → Refusal
-tag_at at = because 11 at
+tag_at at = because Tag at
 
 abbrev pub prefix_at : ℕ → Refusal
-prefix_at at = because 12 at
+prefix_at at = because CompactPrefix at
 
 abbrev pub range_at : ℕ → Refusal
-range_at at = because 13 at
+range_at at = because CompactRange at
 
 -- (the place is a cell's index in writing)
 abbrev pub bit_count_at : ℕ → Refusal
-bit_count_at at = because 14 at
+bit_count_at at = because BitCount at
 
 abbrev pub depth_at : ℕ → Refusal
-depth_at at = because 15 at
+depth_at at = because Depth at
 
 abbrev pub memory_at : ℕ → Refusal
-memory_at at = because 16 at
+memory_at at = because Memory at
 
 abbrev pub room_at : ℕ → Refusal
-room_at at = because 17 at
+room_at at = because Cells at
 
 abbrev pub bytes_left_at : ℕ → Refusal
-bytes_left_at at = because 18 at
+bytes_left_at at = because BytesLeft at
 
 -- ---- of cells; the place is a cell's index, and for 23 that of the first cell left over
 
 abbrev pub cells_end_at : ℕ → Refusal
-cells_end_at at = because 20 at
+cells_end_at at = because CellsShort at
 
 abbrev pub unfit_at : ℕ → Refusal
-unfit_at at = because 21 at
+unfit_at at = because CellUnfit at
 
 abbrev pub output_small : Refusal
-output_small = because 22 0
+output_small = because OutputSmall 0
 
 abbrev pub cells_left_at : ℕ → Refusal
-cells_left_at at = because 23 at
+cells_left_at at = because CellsLeft at
 
 -- ---- of append
 
 abbrev pub append_root : Refusal
-append_root = because 30 0
+append_root = because AppendRoot 0
 
 abbrev pub append_used : Refusal
-append_used = because 31 0
+append_used = because AppendUsed 0
 
 abbrev pub append_head : Refusal
-append_head = because 32 0
+append_head = because AppendHead 0
 
 abbrev pub append_count : Refusal
-append_count = because 33 0
+append_count = because AppendCount 0
 
 -- ---- the bounds
 

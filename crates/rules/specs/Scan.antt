@@ -9,16 +9,17 @@ pub mod Held
 pub mod Units
 pub mod Single
 pub mod Landing
-use Rattle.std.specs.Prelude.{List, ◌++◌, [], ◌∷◌, ℕ, ◌+◌, ◌-◌, ◌^◌, max, min, ltb, leb, length}
-use Rattle.std.proofs.Math.Option.{none, some, Option}
-use Rattle.rules.specs.Refusals.{Refusal, depth_at, memory_at, room_at, bytes_left_at}
+use Rattle.std.specs.Prelude.{List, ◌++◌, [], ◌∷◌, ℕ, ◌+◌, ◌-◌, ◌^◌, max, min, ltb, leb, length, Option, Some, None, Ok, Err}
+use Rattle.rules.specs.Refusals.{Refusal, Answer, depth_at, memory_at, room_at, bytes_left_at}
 use Rattle.rules.specs.Basics.{pick}
 use Rattle.rules.specs.Types.{Ty}
 use Rattle.rules.specs.Trace.{Event, plain, enter, Trace, ended, refused, item, trace}
 pub use Rattle.rules.specs.declared.Limits.{Limits}
 pub use Rattle.rules.specs.declared.Totals.{Totals}
-pub use Rattle.rules.specs.declared.Scan.{Scan}
-pub use Rattle.rules.specs.declared.Scan.TheVariants.{Done as done, Refused as stopped}
+
+-- what a scan answers: what was met, and where it ended
+abbrev pub Scan : Type 0
+Scan = Answer (Totals × ℕ)
 
 -- sums saturate at 2^64 - 1
 abbrev pub sat : ℕ → ℕ
@@ -26,24 +27,24 @@ sat n = min n (2 ^ 64 - 1)
 
 -- the limit that bars an item, in their order
 unfoldable pub barred : Limits → Totals → Event → Option Refusal
-barred lim st (plain p cs) = pick (ltb lim.cells (st.cells + length cs)) (some (room_at p)) none
+barred lim st (plain p cs) = pick (ltb lim.cells (st.cells + length cs)) (Some (room_at p)) None
 barred lim st (enter h) =
-    pick (ltb lim.depth h.level) (some (depth_at h.place))
-    (pick (leb lim.memory (sat (st.charge + h.charge))) (some (memory_at h.place))
-    (pick (ltb lim.cells (st.cells + (1 + h.extra))) (some (room_at h.place)) none))
+    pick (ltb lim.depth h.level) (Some (depth_at h.place))
+    (pick (leb lim.memory (sat (st.charge + h.charge))) (Some (memory_at h.place))
+    (pick (ltb lim.cells (st.cells + (1 + h.extra))) (Some (room_at h.place)) None))
 
 -- the refusal, where there is one
 unfoldable pub unless : Option Refusal → Scan → Scan
-unless (some y) x = stopped y
-unless none x = x
+unless (Some y) x = Err y
+unless None x = x
 
 unfoldable pub finish : Totals → Event → Totals
 finish st (plain p cs) = record { depth = st.depth; charge = st.charge; cells = st.cells + length cs }
 finish st (enter h) = record { depth = max st.depth h.level; charge = sat (st.charge + h.charge); cells = st.cells + 1 }
 
 unfoldable pub run : Limits → Totals → Trace → Scan
-run lim st (ended n) = done st n
-run lim st (refused y) = stopped y
+run lim st (ended n) = Ok (st, n)
+run lim st (refused y) = Err y
 run lim st (item e t) = unless (barred lim st e) (run lim (finish st e) t)
 
 abbrev pub start : Totals
@@ -57,8 +58,8 @@ cells_of (enter h) = h.cell ∷ []
 
 -- where no limit bars an item
 unfoldable pub kept : Option Refusal → List ℕ → List ℕ
-kept (some y) l = []
-kept none l = l
+kept (Some y) l = []
+kept None l = l
 
 unfoldable pub finished : Limits → Totals → Trace → List ℕ
 finished lim st (ended n) = []
@@ -74,8 +75,8 @@ unfoldable pub scanned : Ty → Limits → List ℕ → List ℕ
 scanned t lim s = finished lim start (trace t 0 0 s)
 
 unfoldable pub filling : List ℕ → Scan → Scan
-filling s (done st n) = pick (ltb n (length s)) (stopped (bytes_left_at n)) (done st n)
-filling s (stopped y) = stopped y
+filling s (Ok (st, n)) = pick (ltb n (length s)) (Err (bytes_left_at n)) (Ok (st, n))
+filling s (Err y) = Err y
 
 unfoldable pub scan_all : Ty → Limits → List ℕ → Scan
 scan_all t lim s = filling s (scan t lim s)

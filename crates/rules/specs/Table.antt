@@ -1,18 +1,12 @@
 -- The type table: what node i says, the type that it denotes, and the checks of a table with their numbers and places.
 pub mod Laws
-use Rattle.std.specs.Prelude.{Bool, true, false, ◌&&◌, List, ◌++◌, [], ◌∷◌, ℕ, zero, suc, ◌+◌, ◌-◌, ◌*◌, ◌^◌, min, ltb, leb, eqb, length, replicate, get_or}
-use Rattle.std.proofs.Math.Option.{none, some, Option}
-use Rattle.rules.specs.Refusals.{Refusal, table_mark, table_size, wrong_node_at, footprint_at, max_footprint}
+use Rattle.std.specs.Prelude.{Bool, true, false, ◌&&◌, List, ◌++◌, [], ◌∷◌, ℕ, zero, suc, ◌+◌, ◌-◌, ◌*◌, ◌^◌, min, ltb, leb, eqb, length, replicate, get_or, Option, Ok, Err}
+use Rattle.rules.specs.Refusals.{Refusal, Answer, table_mark, table_size, wrong_node_at, footprint_at, max_footprint}
 use Rattle.rules.specs.Basics.{pick}
 use Rattle.rules.specs.Types.{Width, w1, w2, w4, w8, w16, Leaf, unit, bool, opt_bool, fixed, compact, float, Ty, leaf, nothing, result, pair, array, vector, bits, option}
 use Rattle.rules.specs.Totals.{foot, longest, unit_cells}
 pub use Rattle.rules.specs.declared.Node.{Node}
 pub use Rattle.rules.specs.declared.Node.TheVariants.{Leaf as leaf_node, Option as option_node, Result as result_node, Pair as pair_node, Array as array_node, Vector as vector_node, Bits as bits_node, Unknown as unknown}
-pub use Rattle.rules.specs.declared.Check.{Check}
-pub use Rattle.rules.specs.declared.Check.TheVariants.{Fine as fine, Refused as wrong}
-pub use Rattle.rules.specs.declared.Footprints.{Footprints}
-pub use Rattle.rules.specs.declared.Longest.{Longest}
-pub use Rattle.rules.specs.declared.Longest.TheVariants.{Bytes as at_most, Unbounded as unbounded, Refused as no_longest}
 
 -- ---- a node's four bytes
 
@@ -112,22 +106,29 @@ allowed i (vector_node a) = ltb a i
 allowed i bits_node = true
 allowed i unknown = false
 
+-- what the check answers, and what it answers of a table that it does not refuse
+abbrev pub Check : Type 0
+Check = Answer Unit
+
+pattern abbrev pub fine : Check
+fine = Ok tt
+
 -- n nodes from i on, rising, 3 before 4
 unfoldable pub nodes_from : List ℕ → ℕ → ℕ → Check
 nodes_from tb zero i = fine
 nodes_from tb (suc n) i =
-    pick (allowed i (node_at tb i)) (pick (leb (foot (ty_at tb i)) max_footprint) (nodes_from tb n (suc i)) (wrong (footprint_at i))) (wrong (wrong_node_at i))
+    pick (allowed i (node_at tb i)) (pick (leb (foot (ty_at tb i)) max_footprint) (nodes_from tb n (suc i)) (Err (footprint_at i))) (Err (wrong_node_at i))
 
 -- the six bytes before the nodes, and the length
 unfoldable pub head_check : List ℕ → Check
-head_check tb = pick (ltb (length tb) 6) (wrong table_mark) (pick (marked tb) (pick (sized tb) fine (wrong table_size)) (wrong table_mark))
+head_check tb = pick (ltb (length tb) 6) (Err table_mark) (pick (marked tb) (pick (sized tb) fine (Err table_size)) (Err table_mark))
 
 unfoldable pub check_table : List ℕ → Check
 check_table tb = when_fine (head_check tb)
   where
     when_fine : Check → Check
-    when_fine fine = nodes_from tb (count tb) 0
-    when_fine (wrong y) = wrong y
+    when_fine (Ok u) = nodes_from tb (count tb) 0
+    when_fine (Err y) = Err y
 
 -- a number for each of n nodes from i on, and for all nodes of a table: 64 numbers, 0 past the last node
 unfoldable pub numbers_from : (Ty → ℕ) → List ℕ → ℕ → ℕ → List ℕ
@@ -141,11 +142,12 @@ numbers_of f tb = numbers_from f tb (count tb) 0 ++ replicate (64 - count tb) 0
 
 -- a refusal of the table, or what follows
 abbrev pub after_check : {A : Type 0} → Check → (Refusal → A) → A → A
-after_check fine refuse a = a
-after_check (wrong y) refuse a = refuse y
+after_check (Ok u) refuse a = a
+after_check (Err y) refuse a = refuse y
 
-unfoldable pub footprints_of : List ℕ → Footprints
-footprints_of tb = record { check = check_table tb; feet = after_check (check_table tb) (λ y. replicate 64 0) (numbers_of foot tb) }
+-- the footprint of each node
+unfoldable pub footprints_of : List ℕ → Answer (List ℕ)
+footprints_of tb = after_check (check_table tb) Err (Ok (numbers_of foot tb))
 
 -- for each node of footprint 0 one less than the number of its cells, or 2^64 - 1 where it is larger: 64 numbers, 0 for other nodes
 unfoldable pub unit_code : Ty → ℕ
@@ -154,9 +156,9 @@ unit_code t = pick (eqb (foot t) 0) (min (unit_cells t - 1) (2 ^ 64 - 1)) 0
 unfoldable pub units_of : List ℕ → List ℕ
 units_of tb = after_check (check_table tb) (λ y. replicate 64 0) (numbers_of unit_code tb)
 
-abbrev pub as_longest : Option ℕ → Longest
-as_longest (some n) = at_most n
-as_longest none = unbounded
+-- the longest length of the root, if it has one
+abbrev pub Longest : Type 0
+Longest = Answer (Option ℕ)
 
 unfoldable pub longest_of : List ℕ → Longest
-longest_of tb = after_check (check_table tb) no_longest (as_longest (longest (root tb)))
+longest_of tb = after_check (check_table tb) Err (Ok (longest (root tb)))

@@ -1,8 +1,7 @@
 -- What is said of a type, its footprint and longest length; and of a value, its nesting, charge and number of vectors. No limit and no running check in them.
 pub mod Bound
 use Rattle.std.proofs.Common.{inl, inr}
-use Rattle.std.proofs.Math.Option.{none, some, Option}
-use Rattle.std.specs.Prelude.{ℕ, ◌+◌, ◌*◌, max, length}
+use Rattle.std.specs.Prelude.{ℕ, ◌+◌, ◌*◌, max, length, Option, Some, None}
 use Rattle.rules.specs.Basics.{total, highest}
 use Rattle.rules.specs.Types.{Width, w1, w2, w4, w8, w16, Leaf, unit, bool, opt_bool, fixed, compact, float, size, Ty, leaf, nothing, result, pair, array, vector, bits, Val}
 use Rattle.rules.specs.Bits.{words8}
@@ -45,19 +44,19 @@ leaf_longest (float w) = size w
 
 -- where both have one
 abbrev pub join : (ℕ → ℕ → ℕ) → Option ℕ → Option ℕ → Option ℕ
-join f (some a) (some b) = some (f a b)
-join f (some a) none = none
-join f none b = none
+join f (Some a) (Some b) = Some (f a b)
+join f (Some a) None = None
+join f None b = None
 
 -- the longest length, or none
 unfoldable pub longest : Ty → Option ℕ
-longest (leaf k) = some (leaf_longest k)
-longest nothing = some 0
+longest (leaf k) = Some (leaf_longest k)
+longest nothing = Some 0
 longest (result t u) = join (λ a b. 1 + max a b) (longest t) (longest u)
 longest (pair t u) = join ◌+◌ (longest t) (longest u)
-longest (array n t) = join ◌*◌ (some n) (longest t)
-longest (vector t) = none
-longest bits = none
+longest (array n t) = join ◌*◌ (Some n) (longest t)
+longest (vector t) = None
+longest bits = None
 
 -- the cells of a type of footprint 0
 unfoldable pub unit_cells : Ty → ℕ

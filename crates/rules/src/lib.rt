@@ -1,6 +1,9 @@
-// The words that the definitions in specs/ and the code of every crate above share: the widths, leaves and nodes of a type table, the limits, the answers and
-// the refusal numbers. There is no function here: the theory of the format stands in specs/, its laws in proofs/, and a contract's right side is a definition from there.
+// The words that the definitions in specs/ and the code of every crate above share: the widths, leaves and nodes of a type table, the limits, and the answers with
+// their refusals. No job is done here: the theory of the format stands in specs/, its laws in proofs/, and a contract's right side is a definition from there.
 #![tactic(auto)]
+
+ghost use Rattle.std.specs.Prelude.{◌≡◌, Err};
+ghost use Rattle.rules.specs.Refusals.{because, number_of};
 
 // A width of a number, in bytes.
 #[derive(Clone, Copy)]
@@ -36,11 +39,55 @@ pub enum Node {
     Unknown,
 }
 
-// Why a job was refused: the number, and the place that goes with it.
-#[derive(Clone, Copy)]
+// Why a job was refused: its number among the refusals.
+#[derive(Clone, Copy, PartialEq, Eq, Debug)]
+pub enum Reason {
+    TableMark = 1,
+    TableSize = 2,
+    TableNode = 3,
+    TableFootprint = 4,
+    Short = 10,
+    Tag = 11,
+    CompactPrefix = 12,
+    CompactRange = 13,
+    BitCount = 14,
+    Depth = 15,
+    Memory = 16,
+    Cells = 17,
+    BytesLeft = 18,
+    CellsShort = 20,
+    CellUnfit = 21,
+    OutputSmall = 22,
+    CellsLeft = 23,
+    AppendRoot = 30,
+    AppendUsed = 31,
+    AppendHead = 32,
+    AppendCount = 33,
+}
+
+impl From<Reason> for u32 {
+    ghost from_gives = { λ reason number. number ≡ number_of reason };
+
+    fn from(reason: Reason) -> u32 {
+        reason as u32
+    }
+}
+
+// A refusal: its reason, and the place that goes with it.
+#[derive(Clone, Copy, PartialEq, Eq, Debug)]
 pub struct Refusal {
-    pub number: u32,
+    pub reason: Reason,
     pub place: usize,
+}
+
+// What every job answers.
+pub type Answer<T> = Result<T, Refusal>;
+
+// The answer of a job that is refused.
+pub fn refuse<T>(reason: Reason, place: usize) -> Answer<T>
+    ensures { result ≡ Err (because reason place) }
+{
+    Err(Refusal { reason, place })
 }
 
 // D, M and C.
@@ -59,91 +106,12 @@ pub struct Totals {
     pub cells: u64,
 }
 
-// What reading answers: the totals and the bytes that were used, or the refusal.
+// The cells of a leaf's value: one, or the two halves of a 128-bit one, the low half first.
 #[derive(Clone, Copy)]
-pub enum Scan {
-    Done(Totals, usize),
-    Refused(Refusal),
+pub enum Cells {
+    One(u64),
+    Two(u64, u64),
 }
-
-// What the check of a table answers.
-#[derive(Clone, Copy)]
-pub enum Check {
-    Fine,
-    Refused(Refusal),
-}
-
-// The check of a table, and the footprint of each node: 0 past the last one, and everywhere if the table is refused.
-#[derive(Clone, Copy)]
-pub struct Footprints {
-    pub check: Check,
-    pub feet: [u64; 64],
-}
-
-// What a table's longest length is: a number of bytes, or none where the root can reach a vector.
-#[derive(Clone, Copy)]
-pub enum Longest {
-    Bytes(u64),
-    Unbounded,
-    Refused(Refusal),
-}
-
-// How far writing got: the index behind the last cell that was taken and behind the last byte that was put, or why it is refused.
-#[derive(Clone, Copy)]
-pub enum Put {
-    Done(usize, usize),
-    Refused(Refusal),
-}
-
-// What writing and appending answer: how many bytes are used now.
-#[derive(Clone, Copy)]
-pub enum Written {
-    Bytes(usize),
-    Refused(Refusal),
-}
-
-// The refusal numbers.
-pub const TABLE_MARK: u32 = 1;
-
-pub const TABLE_SIZE: u32 = 2;
-
-pub const TABLE_NODE: u32 = 3;
-
-pub const TABLE_FOOTPRINT: u32 = 4;
-
-pub const SHORT: u32 = 10;
-
-pub const TAG: u32 = 11;
-
-pub const COMPACT_PREFIX: u32 = 12;
-
-pub const COMPACT_RANGE: u32 = 13;
-
-pub const BIT_COUNT: u32 = 14;
-
-pub const DEPTH: u32 = 15;
-
-pub const MEMORY: u32 = 16;
-
-pub const CELLS: u32 = 17;
-
-pub const BYTES_LEFT: u32 = 18;
-
-pub const CELLS_SHORT: u32 = 20;
-
-pub const CELL_UNFIT: u32 = 21;
-
-pub const OUTPUT_SMALL: u32 = 22;
-
-pub const CELLS_LEFT: u32 = 23;
-
-pub const APPEND_ROOT: u32 = 30;
-
-pub const APPEND_USED: u32 = 31;
-
-pub const APPEND_HEAD: u32 = 32;
-
-pub const APPEND_COUNT: u32 = 33;
 
 // The most bits of a bit vector, the largest footprint, and the largest count of a vector.
 pub const MAX_BITS: u64 = 0x1fff_ffff;

@@ -1,4 +1,5 @@
 -- Behind a count: the head of a bit vector or a vector, and what follows it.
+use Rattle.std.specs.Prelude.{Ok, Err}
 use mathlib.Core.List.{List, [], ◌∷◌}
 use mathlib.Core.Path.{◌≡◌, ap, sym, ◌∙◌}
 use Prim.Native.Nat.{ℕ, ◌+◌}
@@ -9,26 +10,25 @@ use Rattle.rules.proofs.Laws.Scan.Single.{entry_stopped, entry_done}
 use Rattle.rules.specs.Trace.{Head, enter}
 use Rattle.rules.specs.declared.Limits.{Limits}
 use Rattle.rules.specs.declared.Refusal.{Refusal}
-use Rattle.rules.specs.declared.Scan.{Scan}
-use Rattle.rules.specs.declared.Scan.TheVariants.{Done as done, Refused as stopped}
+use Rattle.rules.specs.Scan.{Scan}
 use Rattle.rules.specs.declared.Totals.{Totals}
 use Rattle.rules.specs.Scan.Landing.{Lands}
 use Rattle.rules.proofs.Laws.Scan.Landing.{lands_behind}
 
 -- what was entered: the cells, and where it goes on
 module _ (lim : Limits) (st : Totals) (h : Head) (e : ℕ) (u : Totals) (e' : ℕ) (r : Scan) (l m : List ℕ) (f : Lands (entry_pass lim st h e) l st r m) where
-  pub head_stops : (y : Refusal) → r ≡ stopped y → (k : Totals → Pass) (p : Pass) → p ≡ passing lim st (enter h) k → Lands p l st (stopped y) m
+  pub head_stops : (y : Refusal) → r ≡ Err y → (k : Totals → Pass) (p : Pass) → p ≡ passing lim st (enter h) k → Lands p l st (Err y) m
   unfolding landed
   head_stops y q k p g =
-      let a : p ≡ pass_none (stopped y) = g ∙ entry_stopped lim st h e y (sym f.0 ∙ q) k in
-      let b : entry_pass lim st h e ≡ pass_none (stopped y) = (unfold entry_pass in entry_stopped lim st h e y (sym f.0 ∙ q) (λ u. pass_none (done u e))) in
+      let a : p ≡ pass_none (Err y) = g ∙ entry_stopped lim st h e y (sym f.0 ∙ q) k in
+      let b : entry_pass lim st h e ≡ pass_none (Err y) = (unfold entry_pass in entry_stopped lim st h e y (sym f.0 ∙ q) (λ u. pass_none (Ok (u, e)))) in
       (sym (ap (λ (x : Pass). x.answer) a), f.1 ∙ ap (λ (x : Pass). sets l st.cells x.cells) (b ∙ sym a))
 
-  pub head_enters : r ≡ done u e' → Entering lim st h e u e'
+  pub head_enters : r ≡ Ok (u, e') → Entering lim st h e u e'
   head_enters q = entry_done lim st h e u e' (sym f.0 ∙ q)
 
   -- what goes on from there lands behind the count
-  pub head_goes : r ≡ done u e' → (k : Totals → Pass) (p : Pass) (r' : Scan) (m' : List ℕ) → p ≡ passing lim st (enter h) k → Lands (k u) m u r' m' → Lands p l st r' m'
+  pub head_goes : r ≡ Ok (u, e') → (k : Totals → Pass) (p : Pass) (r' : Scan) (m' : List ℕ) → p ≡ passing lim st (enter h) k → Lands (k u) m u r' m' → Lands p l st r' m'
   head_goes q k p r' m' g w =
       let E = head_enters q in
       let c : u.cells ≡ st.cells + 1 = ap (λ (x : Totals). x.cells) E.totals in

@@ -1,4 +1,5 @@
 -- The bytes of a bit vector: from what `bit_vec::read` answers and writes to what a pass leaves.
+use Rattle.std.specs.Prelude.{Ok, Err}
 use mathlib.Core.Bool.{Bool}
 use mathlib.Core.List.{List}
 use mathlib.Core.Path.{◌≡◌, refl, ap, sym, ◌∙◌, ap₂}
@@ -20,18 +21,17 @@ use Rattle.rules.specs.Scan.Single.{lanes_done, lanes_pass}
 use Rattle.rules.proofs.Laws.Scan.Single.{lanes_pass_lem}
 use Rattle.rules.specs.Scan.Units.{plus_cells}
 use Rattle.rules.specs.declared.Limits.{Limits}
-use Rattle.rules.specs.declared.Scan.{Scan}
-use Rattle.rules.specs.declared.Scan.TheVariants.{Done as done, Refused as stopped}
+use Rattle.rules.specs.Scan.{Scan}
 use Rattle.rules.specs.declared.Totals.{Totals}
 use Rattle.rules.proofs.Laws.Scan.Landing.{same_pass_as}
 
 module _ (n at e : ℕ) (s l m : List ℕ) (t : Totals) (q : Moved) (a : q ≡ bits_read n at s) (b : m ≡ cells_read n at s l t.cells) where
-  pub lanes_refused : (y : Refusal) → q ≡ refused y → (stopped y ≡ (lanes_pass n at e s t).answer) × (m ≡ landed l t (lanes_pass n at e s t))
+  pub lanes_refused : (y : Refusal) → q ≡ refused y → (Err y ≡ (lanes_pass n at e s t).answer) × (m ≡ landed l t (lanes_pass n at e s t))
   unfolding bits_read cells_read lanes_from lanes_pass lanes_done landed
   lanes_refused y f = go (lanes_from n at e s) (sym a ∙ f) b
     where
-      go : (r : Res (List Bool)) → moved r ≡ refused y → m ≡ stored n l t.cells r → (stopped y ≡ (lanes_done n e t r).answer) × (m ≡ sets l t.cells (lanes_done n e t r).cells)
-      go (bad x) p c = let z : x ≡ y = cc in (ap stopped (sym z), c)
+      go : (r : Res (List Bool)) → moved r ≡ refused y → m ≡ stored n l t.cells r → (Err y ≡ (lanes_done n e t r).answer) × (m ≡ sets l t.cells (lanes_done n e t r).cells)
+      go (bad x) p c = let z : x ≡ y = cc in (ap Err (sym z), c)
       go (got v k) p c = absurd (let z : ◌≡◌ {A = ℕ} 0 1 = cc in omega arith)
 
   pub lanes_within : (used : ℕ) → q ≡ took used → used ≤ length s
@@ -43,14 +43,14 @@ module _ (n at e : ℕ) (s l m : List ℕ) (t : Totals) (q : Moved) (a : q ≡ b
       go (got v k) d p = let z : k ≡ used = cc in omega (arith, lanes_used n at at s v k d)
 
   pub lanes_bytes : (used : ℕ) → q ≡ took used
-      → (done (plus_cells t (words64 n)) (e + used) ≡ (lanes_pass n at e s t).answer) × (m ≡ landed l t (lanes_pass n at e s t))
+      → (Ok (plus_cells t (words64 n), e + used) ≡ (lanes_pass n at e s t).answer) × (m ≡ landed l t (lanes_pass n at e s t))
   unfolding bits_read cells_read lanes_from lanes_pass lanes_done landed
   lanes_bytes used f = go (lanes_from n at e s) (sym a ∙ f) b
     where
       go : (r : Res (List Bool)) → moved r ≡ took used → m ≡ stored n l t.cells r
-          → (done (plus_cells t (words64 n)) (e + used) ≡ (lanes_done n e t r).answer) × (m ≡ sets l t.cells (lanes_done n e t r).cells)
+          → (Ok (plus_cells t (words64 n), e + used) ≡ (lanes_done n e t r).answer) × (m ≡ sets l t.cells (lanes_done n e t r).cells)
       go (bad x) p c = absurd (let z : ◌≡◌ {A = ℕ} 0 1 = cc in omega arith)
-      go (got v k) p c = let z : k ≡ used = cc in (ap (λ j. done (plus_cells t (words64 n)) (e + j)) (sym z), c)
+      go (got v k) p c = let z : k ≡ used = cc in (ap (λ j. Ok (plus_cells t (words64 n), e + j)) (sym z), c)
 
 -- the same on what stands behind the head
 pub lanes_land : (lim : Limits) (n at used e : ℕ) (s : List ℕ) (u : Totals) (r : Scan) (l m : List ℕ) → u.cells + words64 n ≤ lim.cells → e ≡ at + used

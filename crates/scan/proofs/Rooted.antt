@@ -1,4 +1,5 @@
 -- From the walk of the root to what the walk of a whole table answers and passes.
+use Rattle.std.specs.Prelude.{Err}
 use mathlib.Core.List.{List, []}
 use mathlib.Core.Path.{◌≡◌, ap, sym, ◌∙◌, subst}
 use Prim.Native.Nat.{ℕ, ◌-◌}
@@ -10,13 +11,11 @@ use Rattle.rules.specs.Scan.Pass.{pass_at, landed}
 use Rattle.rules.proofs.Laws.Scan.Pass.{pass_front}
 use Rattle.rules.specs.Table.{count, ty_at, root, check_table, numbers_of, after_check, footprints_of}
 use Rattle.rules.specs.Totals.{foot}
-use Rattle.rules.specs.declared.Check.{Check}
-use Rattle.rules.specs.declared.Check.TheVariants.{Fine as fine, Refused as wrong}
+use Rattle.rules.specs.Table.{Check}
 use Rattle.rules.specs.declared.Footprints.{Footprints}
 use Rattle.rules.specs.declared.Limits.{Limits}
 use Rattle.rules.specs.declared.Refusal.{Refusal}
-use Rattle.rules.specs.declared.Scan.{Scan}
-use Rattle.rules.specs.declared.Scan.TheVariants.{Refused as stopped}
+use Rattle.rules.specs.Scan.{Scan}
 use Rattle.scan.specs.Walk.{passed_in}
 
 -- the walk of the root
@@ -38,10 +37,10 @@ unfolding footprints_of
 found_feet tb q e f = ap (λ (x : Footprints). x.feet) e ∙ ap (λ c. after_check c (λ y. replicate 64 0) (numbers_of foot tb)) f
 
 -- by a table that is refused, and by one that is not
-pub front_refused : (tb s l : List ℕ) (lim : Limits) (y : Refusal) → check_table tb ≡ wrong y → (stopped y ≡ read_front tb s lim) × (l ≡ sets l 0 (passed_in tb lim s))
+pub front_refused : (tb s l : List ℕ) (lim : Limits) (y : Refusal) → check_table tb ≡ Err y → (Err y ≡ read_front tb s lim) × (l ≡ sets l 0 (passed_in tb lim s))
 unfolding read_front passed_in
 front_refused tb s l lim y e = (
-  sym (ap (λ c. after_check c stopped (scan (root tb) lim s)) e),
+  sym (ap (λ c. after_check c Err (scan (root tb) lim s)) e),
   sym (ap (λ c. sets l 0 (after_check c (λ _. []) (scanned (root tb) lim s))) e),
 )
 
@@ -49,6 +48,6 @@ pub front_scanned : (tb s l m : List ℕ) (lim : Limits) (r : Scan) → check_ta
     → (r ≡ read_front tb s lim) × (m ≡ sets l 0 (passed_in tb lim s))
 unfolding read_front passed_in
 front_scanned tb s l m lim r e f = (
-  f.0 ∙ sym (ap (λ c. after_check c stopped (scan (root tb) lim s)) e),
+  f.0 ∙ sym (ap (λ c. after_check c Err (scan (root tb) lim s)) e),
   f.1 ∙ sym (ap (λ c. sets l 0 (after_check c (λ _. []) (scanned (root tb) lim s))) e),
 )

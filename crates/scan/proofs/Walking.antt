@@ -1,4 +1,5 @@
 -- The walkers, kind by kind: from the passes of the parts to the pass of the whole.
+use Rattle.std.specs.Prelude.{Ok, Err}
 use mathlib.Core.List.{List}
 use mathlib.Core.Path.{◌≡◌, refl, ap, sym, ◌∙◌, subst}
 use Prim.Native.Nat.{ℕ, zero, suc, ◌+◌, ◌-◌, ◌*◌, ◌^◌, ◌≤◌, ◌<◌}
@@ -35,8 +36,7 @@ use Rattle.rules.specs.declared.Leaf.TheVariants.{Bool as bool, Compact as compa
 use Rattle.rules.specs.declared.Limits.{Limits}
 use Rattle.rules.specs.declared.Node.{Node}
 use Rattle.rules.specs.declared.Refusal.{Refusal}
-use Rattle.rules.specs.declared.Scan.{Scan}
-use Rattle.rules.specs.declared.Scan.TheVariants.{Done as done, Refused as stopped}
+use Rattle.rules.specs.Scan.{Scan}
 use Rattle.rules.specs.declared.Totals.{Totals}
 use Rattle.rules.specs.declared.Width.TheVariants.{W4 as w4}
 use Rattle.node.specs.Laws.{node_is}
@@ -50,13 +50,13 @@ use Rattle.scan.specs.Walk.{Walkable}
 -- ---- one pass after another
 
 module _ (p : Pass) (k : Totals → ℕ → Pass) (l : List ℕ) (st : Totals) {P : Pass} {r : Scan} {m : List ℕ} (g : P ≡ and_then p k) (f : Lands p l st r m) where
-  pub then_stops : {y : Refusal} → r ≡ stopped y → Lands P l st (stopped y) m
+  pub then_stops : {y : Refusal} → r ≡ Err y → Lands P l st (Err y) m
   unfolding landed
   then_stops {y} q =
-      let e : P ≡ record { answer = stopped y; cells = p.cells } = g ∙ ap (λ x. then_from x p.cells k) (sym f.0 ∙ q) ∙ (unfold then_from in refl) in
+      let e : P ≡ record { answer = Err y; cells = p.cells } = g ∙ ap (λ x. then_from x p.cells k) (sym f.0 ∙ q) ∙ (unfold then_from in refl) in
       (sym (ap (λ (x : Pass). x.answer) e), f.1 ∙ sym (ap (λ (x : Pass). sets l st.cells x.cells) e))
 
-  then_goes : {u : Totals} {e : ℕ} → r ≡ done u e → u.cells ≡ st.cells + length p.cells → {r' : Scan} {m' : List ℕ} → Lands (k u e) m u r' m' → Lands P l st r' m'
+  then_goes : {u : Totals} {e : ℕ} → r ≡ Ok (u, e) → u.cells ≡ st.cells + length p.cells → {r' : Scan} {m' : List ℕ} → Lands (k u e) m u r' m' → Lands P l st r' m'
   then_goes {u} {e} q c {r'} {m'} w =
       let b : P ≡ behind p.cells (k u e) = g ∙ ap (λ x. then_from x p.cells k) (sym f.0 ∙ q) ∙ (unfold then_from in refl) in
       lands_behind P (k u e) p.cells l m m' st u r' b (f.1 ∙ (unfold landed in refl)) c w
@@ -151,7 +151,7 @@ choose_more zero x y n = absurd (n refl)
 choose_more (suc b) x y n = refl
 
 module _ {tb feet units : List ℕ} {a at : ℕ} {s : List ℕ} {lim : Limits} {st : Totals} (W : Walkable tb feet units a at s lim st)
-    {r : Scan} (l : List ℕ) {m : List ℕ} (f : Lands (leaf_pass bool lim at s st) l st r m) {u : Totals} {e : ℕ} (d : r ≡ done u e) where
+    {r : Scan} (l : List ℕ) {m : List ℕ} (f : Lands (leaf_pass bool lim at s st) l st r m) {u : Totals} {e : ℕ} (d : r ≡ Ok (u, e)) where
   pub tag_held : Held lim st at s (leaf_pass bool lim at s st).cells u e
   tag_held = leaf_held bool lim at s st u e W.within (sym f.0 ∙ d)
 
@@ -173,15 +173,15 @@ module _ {tb feet units : List ℕ} {a at : ℕ} {s : List ℕ} {lim : Limits} {
   tag_second A B level z w = tag_goes A B level (pass_at B lim level) (choose_more (get_or s 0 0) (pass_at A lim level) (pass_at B lim level) z) w
 
   -- nothing is behind it
-  pub tag_alone : (A : Ty) (level : ℕ) → get_or s 0 0 ≡ 0 → Lands (pass_at (option A) lim level at s st) l st (done u e) m
+  pub tag_alone : (A : Ty) (level : ℕ) → get_or s 0 0 ≡ 0 → Lands (pass_at (option A) lim level at s st) l st (Ok (u, e)) m
   tag_alone A level z =
       tag_first nothing A level z
-      (same_pass_as (pass_at nothing lim level e (rest (e - at) s) u) (pass_none (done u e)) (done u e) m m u (pass_nothing lim level e (rest (e - at) s) u) (refl, unfold landed in refl))
+      (same_pass_as (pass_at nothing lim level e (rest (e - at) s) u) (pass_none (Ok (u, e))) (Ok (u, e)) m m u (pass_nothing lim level e (rest (e - at) s) u) (refl, unfold landed in refl))
 
 -- ---- a pair: behind the first
 
 module _ {tb feet units : List ℕ} {a at : ℕ} {s : List ℕ} {lim : Limits} {st : Totals} (W : Walkable tb feet units a at s lim st)
-    (A : Ty) (level : ℕ) {r : Scan} (l : List ℕ) {m : List ℕ} (f : Lands (pass_at A lim level at s st) l st r m) {u : Totals} {e : ℕ} (d : r ≡ done u e) where
+    (A : Ty) (level : ℕ) {r : Scan} (l : List ℕ) {m : List ℕ} (f : Lands (pass_at A lim level at s st) l st r m) {u : Totals} {e : ℕ} (d : r ≡ Ok (u, e)) where
   pub item_held : Held lim st at s (pass_at A lim level at s st).cells u e
   item_held = pass_held A lim level at s st u e W.within (sym f.0 ∙ d)
 
@@ -208,10 +208,10 @@ module _ {tb feet units : List ℕ} {a at : ℕ} {s : List ℕ} {lim : Limits} {
       ∙ ap (λ x. passing lim st (vector_head x level at c) (λ u. after (items c (pass_at (ty_at tb a) lim (level + 1))) at s u (at + n))) (sym (foot_at W))
 
   module _ (level : ℕ) {r : Scan} (l : List ℕ) {m : List ℕ} (f : Lands (entry_pass lim st (record { place = at; level = level + 1; charge = c * get_or feet a 0; cell = c; extra = 0 }) (at + n)) l st r m) where
-    pub vector_stops : {y : Refusal} → r ≡ stopped y → Lands (pass_at (vector (ty_at tb a)) lim level at s st) l st (stopped y) m
+    pub vector_stops : {y : Refusal} → r ≡ Err y → Lands (pass_at (vector (ty_at tb a)) lim level at s st) l st (Err y) m
     vector_stops {y} q = head_stops lim st _ _ st 0 r l m f y q (λ u. after (items c (pass_at (ty_at tb a) lim (level + 1))) at s u (at + n)) _ (counted level)
 
-    module _ {u : Totals} {e : ℕ} (d : r ≡ done u e) where
+    module _ {u : Totals} {e : ℕ} (d : r ≡ Ok (u, e)) where
       pub entered : Entering lim st (record { place = at; level = level + 1; charge = c * get_or feet a 0; cell = c; extra = 0 }) (at + n) u e
       entered = head_enters lim st _ _ u e r l m f d
 
@@ -240,16 +240,16 @@ items_next p (suc n) e s t h = let k : n ≡ suc n - 1 = omega arith in ap (λ j
 
 module _ {tb feet units : List ℕ} {node : ℕ} (level : ℕ) {lim : Limits} {count at : ℕ} {s : List ℕ} {t₀ : Totals} {cells₀ cells left : List ℕ} {e : ℕ} {t : Totals} {n : ℕ}
     (L : Looping (pass_at (ty_at tb node) lim level) tb feet units node lim count at s t₀ cells₀ cells left e t n) where
-  pub loop_done : n ≤ 0 → Lands (items count (pass_at (ty_at tb node) lim level) at s t₀) cells₀ t₀ (done t e) cells
+  pub loop_done : n ≤ 0 → Lands (items count (pass_at (ty_at tb node) lim level) at s t₀) cells₀ t₀ (Ok (t, e)) cells
   loop_done h =
       let z : n ≡ 0 = omega arith in
-      L.same (done t e) cells (subst (λ j. Lands (items j (pass_at (ty_at tb node) lim level) e left t) cells t (done t e) cells) (sym z) (unfold items landed in (refl, refl)))
+      L.same (Ok (t, e)) cells (subst (λ j. Lands (items j (pass_at (ty_at tb node) lim level) e left t) cells t (Ok (t, e)) cells) (sym z) (unfold items landed in (refl, refl)))
 
   module _ (more : 0 < n) {r : Scan} {m : List ℕ} (f : Lands (pass_at (ty_at tb node) lim level e left t) cells t r m) where
-    pub loop_stops : {y : Refusal} → r ≡ stopped y → Lands (items count (pass_at (ty_at tb node) lim level) at s t₀) cells₀ t₀ (stopped y) m
-    loop_stops {y} q = L.same (stopped y) m (then_stops (pass_at (ty_at tb node) lim level e left t) (after (items (n - 1) (pass_at (ty_at tb node) lim level)) e left) cells t (items_next (pass_at (ty_at tb node) lim level) n e left t more) f q)
+    pub loop_stops : {y : Refusal} → r ≡ Err y → Lands (items count (pass_at (ty_at tb node) lim level) at s t₀) cells₀ t₀ (Err y) m
+    loop_stops {y} q = L.same (Err y) m (then_stops (pass_at (ty_at tb node) lim level e left t) (after (items (n - 1) (pass_at (ty_at tb node) lim level)) e left) cells t (items_next (pass_at (ty_at tb node) lim level) n e left t more) f q)
 
-    pub loop_goes : {u : Totals} {e' : ℕ} → r ≡ done u e' → Looping (pass_at (ty_at tb node) lim level) tb feet units node lim count at s t₀ cells₀ m (rest (e' - e) left) e' u (n - 1)
+    pub loop_goes : {u : Totals} {e' : ℕ} → r ≡ Ok (u, e') → Looping (pass_at (ty_at tb node) lim level) tb feet units node lim count at s t₀ cells₀ m (rest (e' - e) left) e' u (n - 1)
     loop_goes {u} {e'} q =
         let p : Passer = pass_at (ty_at tb node) lim level in
         let held : Held lim t e left (p e left t).cells u e' = item_held L.walkable (ty_at tb node) level cells f q in

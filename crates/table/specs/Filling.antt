@@ -1,5 +1,5 @@
 -- Laws of the loops over the nodes, which fill an array rising: of its first i places each has its node's number, and the others have 0. The numbers of this crate are footprints.
-use Rattle.std.specs.Prelude.{true, false, ◌≡◌, refl, length, get_or, set, replicate}
+use Rattle.std.specs.Prelude.{true, false, ◌≡◌, refl, length, get_or, set, replicate, Err}
 use mathlib.Core.List.{List, ◌++◌}
 use Rattle.std.proofs.Common.{ap, ◌∙◌, add-one, below_more, length-set, length-append, get_or-set_same, get_or-set_other, get_or-append-add}
 use Rattle.std.proofs.Math.Path.{sym}
@@ -17,7 +17,7 @@ use Rattle.rules.specs.Totals.{foot}
 use Rattle.rules.specs.Table.{count, node_at, ty_at, allowed, nodes_from, head_check, check_table, numbers_from, numbers_of, footprints_of}
 use Rattle.rules.specs.Table.Laws.{Below, Passes}
 use Rattle.rules.proofs.Laws.Table.{type_prefix, allowed_below, nodes_next, nodes_wrong, nodes_large, numbers_at, numbers_length, check_nodes, head_fine}
-use Rattle.table.specs.Names.{fine, wrong}
+use Rattle.table.specs.Names.{fine}
 use Rattle.table.specs.Nodes.{foot_over, no_feet}
 use Rattle.table.specs.Laws.{foot_over_lem}
 
@@ -90,7 +90,7 @@ pub record Weighing (tb : List ℕ) (i : ℕ) (l : List ℕ) : Type 0 where
 pub weighing_none : (tb : List ℕ) → Weighing tb 0 (replicate 64 0)
 weighing_none tb = record { left = rw (sub-zero (count tb)); passed = λ j h. absurd (omega arith); feet = measuring_none foot tb }
 
-pub refused_feet : (tb : List ℕ) (y : Refusal) → check_table tb ≡ wrong y → footprints_of tb ≡ no_feet (wrong y)
+pub refused_feet : (tb : List ℕ) (y : Refusal) → check_table tb ≡ Err y → footprints_of tb ≡ no_feet (Err y)
 unfolding footprints_of
 refused_feet tb y e = rw e
 
@@ -114,7 +114,7 @@ module _ (tb : List ℕ) (f : head_check tb ≡ fine) (i : ℕ) (l : List ℕ) (
     next : count tb - i ≡ suc (count tb - (i + 1))
     next = omega arith
 
-    pub weighing_wrong : allowed i (node_at tb i) ≡ false → footprints_of tb ≡ no_feet (wrong (wrong_node_at i))
+    pub weighing_wrong : allowed i (node_at tb i) ≡ false → footprints_of tb ≡ no_feet (Err (wrong_node_at i))
     weighing_wrong e = refused_feet tb (wrong_node_at i) (check_nodes tb f ∙ W.left ∙ rw next (nodes_wrong tb (count tb - (i + 1)) i e))
 
     module _ (e : allowed i (node_at tb i) ≡ true) where
@@ -128,7 +128,7 @@ module _ (tb : List ℕ) (f : head_check tb ≡ fine) (i : ℕ) (l : List ℕ) (
 
       -- (with the footprint as the code has it)
       module _ (v : ℕ) (q : v ≡ foot (ty_at tb i)) where
-        pub weighing_large : max_footprint < v → footprints_of tb ≡ no_feet (wrong (footprint_at i))
+        pub weighing_large : max_footprint < v → footprints_of tb ≡ no_feet (Err (footprint_at i))
         weighing_large g = refused_feet tb (footprint_at i) (check_nodes tb f ∙ W.left ∙ rw next (nodes_large tb (count tb - (i + 1)) i e (rw q at g)))
 
         pub weighing_more : v ≤ max_footprint → Weighing tb (i + 1) (set l i v)

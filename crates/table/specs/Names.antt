@@ -1,4 +1,3 @@
 -- The answer of a check and its constructors, under the names that rules' own definitions have for them.
-pub use Rattle.rules.specs.declared.Check.{Check}
-pub use Rattle.rules.specs.declared.Check.TheVariants.{Fine as fine, Refused as wrong}
+pub use Rattle.rules.specs.Table.{Check}
 pub use Rattle.rules.specs.declared.Footprints.{Footprints}

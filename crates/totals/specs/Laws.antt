@@ -1,6 +1,5 @@
 -- Laws of longest lengths: a node's from those of its children, and as numbers.
-use Rattle.std.proofs.Math.Option.{none, some, Option}
-use Rattle.std.specs.Prelude.{◌≡◌, refl, ℕ, ◌^◌, ◌≤◌, ◌<◌}
+use Rattle.std.specs.Prelude.{◌≡◌, refl, ℕ, ◌^◌, ◌≤◌, ◌<◌, Option, Some, None}
 use Rattle.std.proofs.Common.{arith, ne_eqb}
 use Rattle.rules.specs.Refusals.{max_footprint}
 use Rattle.rules.specs.Types.{Ty}
@@ -26,19 +25,19 @@ longest_over_lem f g i unknown b h = absurd b
 
 -- by its footprint, a longest length is short, and can be read back from the number that stands for it
 module _ (t : Ty) (small : foot t ≤ max_footprint) where
-  below : (m : ℕ) → longest t ≡ some m → m < 2 ^ 32
+  below : (m : ℕ) → longest t ≡ Some m → m < 2 ^ 32
   below m e = let h = rw e at (longest_twice t) in omega arith
 
   pub coded_short : Short (coded (longest t))
   coded_short = go (longest t) below
     where
-      go : (o : Option ℕ) → ((m : ℕ) → o ≡ some m → m < 2 ^ 32) → Short (coded o)
-      go none h z = absurd (z refl)
-      go (some m) h z = h m refl
+      go : (o : Option ℕ) → ((m : ℕ) → o ≡ Some m → m < 2 ^ 32) → Short (coded o)
+      go None h z = absurd (z refl)
+      go (Some m) h z = h m refl
 
   pub decoded_coded : decoded (coded (longest t)) ≡ longest t
   decoded_coded = go (longest t) below
     where
-      go : (o : Option ℕ) → ((m : ℕ) → o ≡ some m → m < 2 ^ 32) → decoded (coded o) ≡ o
-      go none h = refl
-      go (some m) h = rw (ne_eqb m no_length (λ e. omega (arith, h m refl)))
+      go : (o : Option ℕ) → ((m : ℕ) → o ≡ Some m → m < 2 ^ 32) → decoded (coded o) ≡ o
+      go None h = refl
+      go (Some m) h = rw (ne_eqb m no_length (λ e. omega (arith, h m refl)))

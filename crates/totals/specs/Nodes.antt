@@ -1,6 +1,5 @@
 -- What the functions of this crate answer, beside rules' definitions: what is found of a node from its children's numbers.
-use Rattle.std.specs.Prelude.{List, ◌≡◌, ℕ, ◌+◌, ◌-◌, ◌*◌, ◌<◌, ◌^◌, min, max, eqb, get_or}
-use Rattle.std.proofs.Math.Option.{none, some, Option}
+use Rattle.std.specs.Prelude.{List, ◌≡◌, ℕ, ◌+◌, ◌-◌, ◌*◌, ◌<◌, ◌^◌, min, max, eqb, get_or, Option, Some, None}
 use Rattle.rules.specs.Basics.{pick}
 use Rattle.rules.specs.Totals.{leaf_longest, join}
 use Rattle.node.specs.Names.{Node, leaf_node, option_node, result_node, pair_node, array_node, vector_node, bits_node, unknown}
@@ -13,25 +12,25 @@ behind_tag x y = 1 + max x y
 
 -- a node's longest length, from those of its children
 unfoldable pub longest_over : (ℕ → Option ℕ) → Node → Option ℕ
-longest_over f (leaf_node k) = some (leaf_longest k)
-longest_over f (option_node a) = join behind_tag (some 0) (f a)
+longest_over f (leaf_node k) = Some (leaf_longest k)
+longest_over f (option_node a) = join behind_tag (Some 0) (f a)
 longest_over f (result_node a b) = join behind_tag (f a) (f b)
 longest_over f (pair_node a b) = join ◌+◌ (f a) (f b)
-longest_over f (array_node n a) = join ◌*◌ (some n) (f a)
-longest_over f (vector_node a) = none
-longest_over f bits_node = none
-longest_over f unknown = some 0
+longest_over f (array_node n a) = join ◌*◌ (Some n) (f a)
+longest_over f (vector_node a) = None
+longest_over f bits_node = None
+longest_over f unknown = Some 0
 
 -- the number that stands for "none" among longest lengths
 abbrev pub no_length : ℕ
 no_length = 0xffff_ffff_ffff_ffff
 
 abbrev pub coded : Option ℕ → ℕ
-coded none = no_length
-coded (some n) = n
+coded None = no_length
+coded (Some n) = n
 
 abbrev pub decoded : ℕ → Option ℕ
-decoded x = pick (eqb x no_length) none (some x)
+decoded x = pick (eqb x no_length) None (Some x)
 
 -- a longest length that is far from wrapping, or none
 abbrev pub Short : ℕ → Type 0

@@ -1,5 +1,5 @@
 -- What the readers and writers of bytes and of cells undo: demand 2 over the definitions.
-use Rattle.std.specs.Prelude.{List, ◌++◌, [], ◌⊎◌, ◌≡◌, refl, ℕ, zero, suc, ◌^◌, ◌≤◌, ◌<◌, length, take, replicate}
+use Rattle.std.specs.Prelude.{List, ◌++◌, [], ◌⊎◌, ◌≡◌, refl, ℕ, zero, suc, ◌^◌, ◌≤◌, ◌<◌, length, take, replicate, Ok}
 use Rattle.std.proofs.Common.{append-nil, sym, ◌∙◌, subst, length-take-le}
 use Rattle.std.proofs.Math.Seq.{take-length}
 use Rattle.rules.specs.Basics.{All, Under}
@@ -17,7 +17,7 @@ use Rattle.rules.proofs.Laws.Cells.{cells_read_lem, cells_return}
 use Rattle.rules.specs.Totals.{nesting, charge, vectors}
 use Rattle.rules.specs.Form.Units.{Over}
 use Rattle.rules.proofs.Laws.Form.Units.{over_any, units}
-use Rattle.rules.specs.Scan.{Limits, Totals, done, scan, scanned}
+use Rattle.rules.specs.Scan.{Limits, Totals, scan, scanned}
 use Rattle.rules.specs.Scan.Accept.{answer}
 use Rattle.rules.proofs.Laws.Scan.Accept.{accepts, accepted, passed}
 use Rattle.rules.specs.RoundTrip.{Back}
@@ -60,7 +60,7 @@ cells_unpacked t at cs v n u e =
 -- ---- DEMAND 2, between cells and bytes
 
 -- writing the cells of an accepted reading gives the bytes that were read, but for the bits that don't count
-pub rewritten : (t : Ty) (lim : Limits) (s : List ℕ) → lim.memory < 2 ^ 64 → Under 256 s → (u : Totals) (n : ℕ) → scan t lim s ≡ done u n
+pub rewritten : (t : Ty) (lim : Limits) (s : List ℕ) → lim.memory < 2 ^ 64 → Under 256 s → (u : Totals) (n : ℕ) → scan t lim s ≡ Ok (u, n)
     → (v : Val t) × (unpack t 0 (scanned t lim s) ≡ got v (length (scanned t lim s))) × Back t s v n
 rewritten t lim s m b u n e =
     let a = accepted t lim s m u n e in
@@ -72,11 +72,11 @@ rewritten t lim s m b u n e =
 -- reading what was written from cells gives the same cells, under limits that admit it
 pub reread : (t : Ty) (lim : Limits) (cs : List ℕ) (v : Val t) → lim.memory < 2 ^ 64 → Under (2 ^ 64) cs → unpack t 0 cs ≡ got v (length cs)
     → nesting t v ≤ lim.depth → length cs ≤ lim.cells → (vectors t v ≡ 0) ⊎ (charge t v < lim.memory)
-    → (rest : List ℕ) → (scan t lim (encode t v ++ rest) ≡ done (answer t v) (length (encode t v))) × (scanned t lim (encode t v ++ rest) ≡ cs)
+    → (rest : List ℕ) → (scan t lim (encode t v ++ rest) ≡ Ok (answer t v, length (encode t v))) × (scanned t lim (encode t v ++ rest) ≡ cs)
 reread t lim cs v m u e hd hc hm rest =
     let r = cells_unpacked t 0 cs v (length cs) u e in
     let c : cells t v ≡ cs = r.2 ∙ take-length cs in
     let q : read t 0 (encode t v ++ rest) ≡ got v (length (encode t v)) = read_written t v r.1 0 rest in
-    let d : scan t lim (encode t v ++ rest) ≡ done (answer t v) (length (encode t v)) =
+    let d : scan t lim (encode t v ++ rest) ≡ Ok (answer t v, length (encode t v)) =
     accepts t lim (encode t v ++ rest) m v (length (encode t v)) (record { reads = q; nests = hd; fills = subst (λ l. length l ≤ lim.cells) (sym c) hc; charges = hm }) in
     (d, passed t lim (encode t v ++ rest) v (answer t v) (length (encode t v)) (length (encode t v)) q d ∙ c)

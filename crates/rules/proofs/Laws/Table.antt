@@ -1,5 +1,5 @@
 -- Laws of the table: the one that unfolds a node's type, and what a checked table is, exactly.
-use Rattle.std.specs.Prelude.{Bool, true, false, ◌&&◌, List, ◌++◌, ◌≡◌, ltb, leb, eqb, length, replicate, get_or}
+use Rattle.std.specs.Prelude.{Bool, true, false, ◌&&◌, List, ◌++◌, ◌≡◌, ltb, leb, eqb, length, replicate, get_or, Err}
 use Rattle.std.proofs.Math.Path.{refl}
 use Rattle.std.proofs.Common.{ap, sym, ◌∙◌, ap₂, subst, add-zero, arith, ltb-true, ltb-false, lt-ltb, le-ltb, leb-true, le-leb, eqb-true, eq-eqb, length-append}
 use Prim.Native.Nat.{ℕ, zero, suc, ◌+◌, ◌-◌, ◌*◌, ◌≤◌, ◌<◌}
@@ -10,7 +10,7 @@ use Rattle.rules.specs.Basics.{pick}
 use Rattle.rules.specs.Types.{Ty, result, pair, array, vector, option}
 use Rattle.rules.proofs.Laws.Bits.{both_true}
 use Rattle.rules.specs.Totals.{foot}
-use Rattle.rules.specs.Table.{Node, leaf_node, option_node, result_node, pair_node, array_node, vector_node, bits_node, unknown, Check, fine, wrong, count, node_at, build, ty_by, ty_at, marked, sized, allowed, nodes_from, head_check, check_table, numbers_from, numbers_of, after_check, unit_code, units_of}
+use Rattle.rules.specs.Table.{Node, leaf_node, option_node, result_node, pair_node, array_node, vector_node, bits_node, unknown, Check, fine, count, node_at, build, ty_by, ty_at, marked, sized, allowed, nodes_from, head_check, check_table, numbers_from, numbers_of, after_check, unit_code, units_of}
 use Rattle.rules.specs.Table.Laws.{Below, Good, Passes, Headed}
 
 -- what holds for all children
@@ -63,7 +63,7 @@ below_allowed i (vector_node a) h = lt-ltb a i h
 below_allowed i bits_node h = refl
 below_allowed i unknown h = absurd h
 
-fine_pick : (b : Bool) (x : Check) (y : Refusal) → pick b x (wrong y) ≡ fine → (b ≡ true) × (x ≡ fine)
+fine_pick : (b : Bool) (x : Check) (y : Refusal) → pick b x (Err y) ≡ fine → (b ≡ true) × (x ≡ fine)
 fine_pick true x y e = (refl, e)
 fine_pick false x y e = absurd (let z : ◌≡◌ {A = ℕ} 0 1 = cc in omega arith)
 
@@ -72,11 +72,11 @@ pub nodes_next : (tb : List ℕ) (n i : ℕ) → Passes tb i → nodes_from tb (
 unfolding nodes_from
 nodes_next tb n i p = rw (below_allowed i (node_at tb i) p.below, le-leb (foot (ty_at tb i)) max_footprint p.footing)
 
-pub nodes_wrong : (tb : List ℕ) (n i : ℕ) → allowed i (node_at tb i) ≡ false → nodes_from tb (suc n) i ≡ wrong (wrong_node_at i)
+pub nodes_wrong : (tb : List ℕ) (n i : ℕ) → allowed i (node_at tb i) ≡ false → nodes_from tb (suc n) i ≡ Err (wrong_node_at i)
 unfolding nodes_from
 nodes_wrong tb n i e = rw e
 
-pub nodes_large : (tb : List ℕ) (n i : ℕ) → allowed i (node_at tb i) ≡ true → max_footprint < foot (ty_at tb i) → nodes_from tb (suc n) i ≡ wrong (footprint_at i)
+pub nodes_large : (tb : List ℕ) (n i : ℕ) → allowed i (node_at tb i) ≡ true → max_footprint < foot (ty_at tb i) → nodes_from tb (suc n) i ≡ Err (footprint_at i)
 unfolding nodes_from
 nodes_large tb n i e h = rw (e, lt-leb (foot (ty_at tb i)) max_footprint h)
 
@@ -85,7 +85,7 @@ unfolding nodes_from
 nodes_pass tb zero i e j lo hi = absurd (omega arith)
 nodes_pass tb (suc n) i e j lo hi = go (ltb i j) refl (λ h g. nodes_pass tb n (suc i) h j g (omega arith))
   where
-    a : (allowed i (node_at tb i) ≡ true) × (pick (leb (foot (ty_at tb i)) max_footprint) (nodes_from tb n (suc i)) (wrong (footprint_at i)) ≡ fine)
+    a : (allowed i (node_at tb i) ≡ true) × (pick (leb (foot (ty_at tb i)) max_footprint) (nodes_from tb n (suc i)) (Err (footprint_at i)) ≡ fine)
     a = fine_pick (allowed i (node_at tb i)) _ (wrong_node_at i) e
 
     b : (leb (foot (ty_at tb i)) max_footprint ≡ true) × (nodes_from tb n (suc i) ≡ fine)
@@ -105,10 +105,10 @@ pub head_fine : (tb : List ℕ) → head_check tb ≡ fine → Headed tb
 unfolding head_check
 head_fine tb e = go (ltb (length tb) 6) e
   where
-    go : (x : Bool) → pick x (wrong table_mark) (pick (marked tb) (pick (sized tb) fine (wrong table_size)) (wrong table_mark)) ≡ fine → Headed tb
+    go : (x : Bool) → pick x (Err table_mark) (pick (marked tb) (pick (sized tb) fine (Err table_size)) (Err table_mark)) ≡ fine → Headed tb
     go true f = absurd (let z : ◌≡◌ {A = ℕ} 0 1 = cc in omega arith)
     go false f =
-        let a = fine_pick (marked tb) (pick (sized tb) fine (wrong table_size)) table_mark f in
+        let a = fine_pick (marked tb) (pick (sized tb) fine (Err table_size)) table_mark f in
         let b = fine_pick (sized tb) fine table_size a.1 in
         let c = both_true (leb 1 (count tb)) (leb (count tb) 64 && eqb (length tb) (6 + 4 * count tb)) b.0 in
         let d = both_true (leb (count tb) 64) (eqb (length tb) (6 + 4 * count tb)) c.1 in
@@ -121,7 +121,7 @@ fine_head tb h =
     rw (le-ltb (length tb) 6 l, h.mark, le-leb 1 (count tb) h.some, le-leb (count tb) 64 h.few, eq-eqb (length tb) (6 + 4 * count tb) h.exact)
 
 -- the check is its head's, then its nodes'
-pub check_head : (tb : List ℕ) (y : Refusal) → head_check tb ≡ wrong y → check_table tb ≡ wrong y
+pub check_head : (tb : List ℕ) (y : Refusal) → head_check tb ≡ Err y → check_table tb ≡ Err y
 unfolding check_table
 check_head tb y e = rw e
 
@@ -138,7 +138,7 @@ check_good tb e = go (head_check tb) refl
         let h = head_fine tb f in
         let p : (j : ℕ) → j < count tb → Passes tb j = λ j l. nodes_pass tb (count tb) 0 (sym (check_nodes tb f) ∙ e) j (omega arith) (omega arith) in
         record { mark = h.mark; some = h.some; few = h.few; exact = h.exact; nodes = λ i l. (p i l).below; feet = λ i l. (p i l).footing }
-    go (wrong y) f = absurd (let a : wrong y ≡ fine = sym (check_head tb y f) ∙ e in let z : ◌≡◌ {A = ℕ} 0 1 = cc in omega arith)
+    go (Err y) f = absurd (let a : Err y ≡ fine = sym (check_head tb y f) ∙ e in let z : ◌≡◌ {A = ℕ} 0 1 = cc in omega arith)
 
 pub good_check : (tb : List ℕ) → Good tb → check_table tb ≡ fine
 good_check tb g =

@@ -6,7 +6,7 @@ use Rattle.rules.specs.Refusals.{because}
 -- the same answer, further on
 unfoldable pub shifted : {A : Type 0} → ℕ → Res A → Res A
 shifted at (got v n) = got v n
-shifted at (bad y) = bad (because y.number (at + y.place))
+shifted at (bad y) = bad (because y.reason (at + y.place))
 
 -- what is refused stands in the first n places, or right behind them
 abbrev pub Within : {A : Type 0} → ℕ → Res A → Type 0

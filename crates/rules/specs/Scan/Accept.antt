@@ -1,5 +1,5 @@
 -- DEMAND 3, its sentence: `Accepted` says when a value at the front of a message is accepted under D, M and C, and `answer` what is answered. `Ran` says the same of a trace.
-use Rattle.std.specs.Prelude.{List, ◌⊎◌, ℕ, ◌+◌, max, ◌≤◌, ◌<◌, length}
+use Rattle.std.specs.Prelude.{List, ◌⊎◌, ℕ, ◌+◌, max, ◌≤◌, ◌<◌, length, Ok, Err}
 use Rattle.std.proofs.Math.Path.{◌≡◌}
 use Rattle.rules.specs.Types.{Ty, Val}
 use Rattle.rules.specs.Parser.{got, bad}
@@ -8,7 +8,7 @@ use Rattle.rules.specs.Cells.{cells}
 use Rattle.rules.specs.Totals.{nesting, charge, vectors}
 use Rattle.rules.specs.Trace.{Trace}
 use Rattle.rules.specs.Trace.Sums.{Sums, sums, ending}
-use Rattle.rules.specs.Scan.{Limits, Totals, Scan, done, stopped}
+use Rattle.rules.specs.Scan.{Limits, Totals, Scan}
 
 -- ---- along a trace
 
@@ -22,8 +22,8 @@ plus st a = record { depth = max st.depth a.deep; charge = st.charge + a.fee; ce
 
 -- what the answer of a run says
 unfoldable pub Ran : Limits → Totals → Trace → Scan → Type 0
-Ran lim st t (done u n) = (ending t ≡ got tt n) × Within lim st (sums t) × (u ≡ plus st (sums t))
-Ran lim st t (stopped y) = (sums t).extra ≡ 0 → Within lim st (sums t) → ending t ≡ bad y
+Ran lim st t (Ok (u, n)) = (ending t ≡ got tt n) × Within lim st (sums t) × (u ≡ plus st (sums t))
+Ran lim st t (Err y) = (sums t).extra ≡ 0 → Within lim st (sums t) → ending t ≡ bad y
 
 -- ---- at the front of a message
 

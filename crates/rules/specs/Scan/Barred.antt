@@ -1,13 +1,12 @@
 -- When a limit bars an item: exactly if the item does not keep within D, M and C. And when limits are larger.
-use Rattle.std.specs.Prelude.{◌⊎◌, ◌≡◌, ◌+◌, ◌≤◌, ◌<◌, length}
-use Rattle.std.proofs.Math.Option.{none, some, Option}
-use Rattle.rules.specs.Refusals.{Refusal, depth_at, memory_at, room_at}
+use Rattle.std.specs.Prelude.{◌⊎◌, ◌≡◌, ◌+◌, ◌≤◌, ◌<◌, length, Option, Some, None}
+use Rattle.rules.specs.Refusals.{Refusal, depth_at, memory_at, room_at, number_of}
 use Rattle.rules.specs.Trace.{Event, plain, enter}
 use Rattle.rules.specs.Scan.{Limits, Totals, sat}
 
 -- the number of a limit
 abbrev pub Limit : Refusal → Type 0
-Limit y = (y.number ≡ 15) ⊎ ((y.number ≡ 16) ⊎ (y.number ≡ 17))
+Limit y = (number_of y.reason ≡ 15) ⊎ ((number_of y.reason ≡ 16) ⊎ (number_of y.reason ≡ 17))
 
 -- the limits let an item pass
 abbrev pub Lets : Limits → Totals → Event → Type 0
@@ -24,8 +23,8 @@ Bars lim st (enter h) y =
 
 -- what is said of an answer
 abbrev pub Told : Limits → Totals → Event → Option Refusal → Type 0
-Told lim st e none = Lets lim st e
-Told lim st e (some y) = Bars lim st e y
+Told lim st e None = Lets lim st e
+Told lim st e (Some y) = Bars lim st e y
 
 pub record Wider (lim lim' : Limits) : Type 0 where
   pub depths : lim.depth ≤ lim'.depth

@@ -1,12 +1,12 @@
 -- One item under the limits, for the code that passes scalars, heads and units.
-use Rattle.std.specs.Prelude.{Bool, ◌≡◌}
+use Rattle.std.specs.Prelude.{Bool, ◌≡◌, Ok, Err}
 use mathlib.Core.List.{List, [], ◌∷◌}
 use Prim.Native.Nat.{ℕ, ◌+◌, max}
 use Rattle.rules.specs.Bits.{words64, pack}
 use Rattle.rules.specs.Parser.{Res, got, bad}
 use Rattle.rules.specs.Wire.{lanes_from}
 use Rattle.rules.specs.Trace.{Head, enter}
-use Rattle.rules.specs.Scan.{Limits, Totals, done, stopped, sat}
+use Rattle.rules.specs.Scan.{Limits, Totals, sat}
 use Rattle.rules.specs.Scan.Pass.{Pass, pass_none, behind, passing, entry_pass}
 use Rattle.rules.specs.Scan.Barred.{Lets}
 use Rattle.rules.specs.Scan.Units.{plus_cells}
@@ -25,8 +25,8 @@ pub record Entering (lim : Limits) (st : Totals) (h : Head) (e : ℕ) (u : Total
 
 -- the bytes of n bits behind a head that asked for their room: their cells, or why they are refused
 unfoldable pub lanes_done : ℕ → ℕ → Totals → Res (List Bool) → Pass
-lanes_done n e u (got v k) = record { answer = done (plus_cells u (words64 n)) (e + k); cells = pack 64 (words64 n) v }
-lanes_done n e u (bad y) = pass_none (stopped y)
+lanes_done n e u (got v k) = record { answer = Ok (plus_cells u (words64 n), e + k); cells = pack 64 (words64 n) v }
+lanes_done n e u (bad y) = pass_none (Err y)
 
 unfoldable pub lanes_pass : ℕ → ℕ → ℕ → List ℕ → Totals → Pass
 lanes_pass n at e s u = lanes_done n e u (lanes_from n at e s)

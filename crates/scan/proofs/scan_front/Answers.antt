@@ -1,4 +1,3 @@
-use Rattle.rules.specs.declared.Check.TheVariants.{Fine as fine}
 use Rattle.scan.proofs.Rooted.{found_check, found_feet, front_refused, front_scanned}
 use Rattle.scan.proofs.scan_front.Goals as goal
 

@@ -1,16 +1,16 @@
+use Rattle.std.specs.Prelude.{Ok, Err}
 use native.Mathlib.Omega.{arith}
-use Rattle.rules.specs.declared.Put.TheVariants.{Done as put_done, Refused as put_not}
 use Rattle.put.proofs.Placing.{place_fits, placed_done, placed_not}
 use Rattle.put.proofs.single.placed.Goals as goal
 
 pub overflow_add-at : goal.overflow_add-at
-overflow_add-at c = omega (arith, place_fits _ _ (put_not _) c.in-Refused.is c.requires)
+overflow_add-at c = omega (arith, place_fits _ _ (Err _) c.in-Refused.is c.requires)
 
 pub overflow_add-result : goal.overflow_add-result
-overflow_add-result c = omega (arith, (place_fits _ _ (put_done _ _) c.in-Done.is c.requires).0)
+overflow_add-result c = omega (arith, (place_fits _ _ (Ok (_, _)) c.in-Done.is c.requires).0)
 
 pub overflow_add-result-in-Done : goal.overflow_add-result-in-Done
-overflow_add-result-in-Done c = omega (arith, (place_fits _ _ (put_done _ _) c.in-Done.is c.requires).1)
+overflow_add-result-in-Done c = omega (arith, (place_fits _ _ (Ok (_, _)) c.in-Done.is c.requires).1)
 
 pub returns-in-Refused : goal.returns-in-Refused
 returns-in-Refused c = placed_not _ _ c.in-Refused.is c.because.ensures

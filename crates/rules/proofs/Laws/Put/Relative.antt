@@ -14,9 +14,9 @@ use Rattle.rules.specs.Wire.{leaf_bytes, bits_bytes}
 use Rattle.rules.specs.Put.Relative.{shifted, Moved, Relative}
 
 module _ {A : Type 0} (at n : ℕ) where
-  refused : (y : Refusal) (further : ℕ) → further ≡ at + y.place → y.place ≤ n → Moved {A = A} at n (bad y) (bad (because y.number further))
+  refused : (y : Refusal) (further : ℕ) → further ≡ at + y.place → y.place ≤ n → Moved {A = A} at n (bad y) (bad (because y.reason further))
   unfolding shifted
-  refused y further e h = (ap (λ p. bad (because y.number p)) e, h)
+  refused y further e h = (ap (λ p. bad (because y.reason p)) e, h)
 
   taken : (v : A) (k : ℕ) → Moved at n (got v k) (got v k)
   unfolding shifted

@@ -1,8 +1,7 @@
 -- DEMAND 3: a scan is done exactly if the written rule reads a value that nests at most D deep, fills at most C cells, and has no vector or charges less than M.
 -- `run_ran` says it of traces, by induction along the trace; `along` takes it to types.
-use Rattle.std.specs.Prelude.{List, ◌++◌, [], ◌∷◌, ℕ, ◌+◌, ◌^◌, max, ◌≤◌, ◌<◌}
+use Rattle.std.specs.Prelude.{List, ◌++◌, [], ◌∷◌, ℕ, ◌+◌, ◌^◌, max, ◌≤◌, ◌<◌, Option, Some, None, Ok, Err}
 use Rattle.std.proofs.Math.Logic.{inl, inr, ⊎_elim}
-use Rattle.std.proofs.Math.Option.{none, some, Option}
 use Rattle.std.proofs.Math.Path.{◌≡◌, refl, ap, ap₂}
 use Rattle.std.proofs.Common.{sym, ◌∙◌, subst, arith}
 use Rattle.std.proofs.Math.ListN.{length-append}
@@ -18,7 +17,7 @@ use Rattle.rules.specs.Trace.Sums.{Sums, ◌⊕◌, nil, sums, ending, Traces}
 use Rattle.rules.proofs.Laws.Trace.Sums.{nil_left}
 use Rattle.rules.specs.Trace.Follows.{reach, sums_of}
 use Rattle.rules.proofs.Laws.Trace.Follows.{along}
-use Rattle.rules.specs.Scan.{Limits, Totals, Scan, done, stopped, sat, barred, unless, finish, run, start, cells_of, kept, finished, scan, scanned}
+use Rattle.rules.specs.Scan.{Limits, Totals, Scan, sat, barred, unless, finish, run, start, cells_of, kept, finished, scan, scanned}
 use Rattle.rules.specs.Scan.Barred.{Lets}
 use Rattle.rules.proofs.Laws.Scan.Barred.{barred_some, barred_none}
 use Rattle.rules.specs.Scan.Accept.{Within, plus, Ran, Reached, Accepted, answer}
@@ -38,13 +37,13 @@ module _ (lim : Limits) (fits : lim.memory < 2 ^ 64) where
   plain_ran : (st : Totals) (p : ℕ) (cs : List ℕ) (t : Trace) (x : Scan) → Lets lim st (plain p cs)
       → Ran lim (finish st (plain p cs)) t x → Ran lim st (item (plain p cs) t) x
   unfolding Ran finish ending sums
-  plain_ran st p cs t (done u n) l r =
+  plain_ran st p cs t (Ok (u, n)) l r =
       let b = length-append cs (sums t).list in (
         r.0,
         record { deep = omega (arith, r.1.deep); room = omega (arith, r.1.room); memory = ⊎_elim (λ e. inl (omega arith)) (λ e. inr (omega arith)) r.1.memory },
         r.2 ∙ same_totals (omega arith) (omega arith) (omega arith),
       )
-  plain_ran st p cs t (stopped y) l r = λ e w.
+  plain_ran st p cs t (Err y) l r = λ e w.
       let b = length-append cs (sums t).list in
       r (omega arith)
       (record { deep = omega (arith, w.deep); room = omega (arith, w.room); memory = ⊎_elim (λ e. inl (omega arith)) (λ e. inr (omega arith)) w.memory })
@@ -52,7 +51,7 @@ module _ (lim : Limits) (fits : lim.memory < 2 ^ 64) where
   -- the head of a vector that the limits let pass
   enter_ran : (st : Totals) (h : Head) (t : Trace) (x : Scan) → Lets lim st (enter h) → Ran lim (finish st (enter h)) t x → Ran lim st (item (enter h) t) x
   unfolding Ran finish ending sums
-  enter_ran st h t (done u n) l r =
+  enter_ran st h t (Ok (u, n)) l r =
       let s : sat (st.charge + h.charge) ≡ st.charge + h.charge = omega (arith, l.1) in (
         r.0,
         record {
@@ -62,7 +61,7 @@ module _ (lim : Limits) (fits : lim.memory < 2 ^ 64) where
         },
         r.2 ∙ same_totals (omega arith) (omega arith) (omega arith),
       )
-  enter_ran st h t (stopped y) l r = λ z w.
+  enter_ran st h t (Err y) l r = λ z w.
       let s : sat (st.charge + h.charge) ≡ st.charge + h.charge = omega (arith, l.1) in
       r (omega arith)
       (record { deep = omega (arith, w.deep); room = omega (arith, w.room); memory = ⊎_elim (λ e. absurd (omega arith)) (λ e. inr (omega arith)) w.memory })
@@ -95,22 +94,22 @@ module _ (lim : Limits) (fits : lim.memory < 2 ^ 64) where
     where
       go : (o : Option Refusal) → barred lim st e ≡ o → (Lets lim st e → Ran lim (finish st e) t (run lim (finish st e) t))
           → Ran lim st (item e t) (unless o (run lim (finish st e) t))
-      go none q f = unfold unless in (let l = barred_none lim st e q in let_ran st e t (run lim (finish st e) t) l (f l))
-      go (some y) q f = unfold unless Ran in λ z w. absurd ((barred_some lim st e y q).1 (within_lets st e t z w))
+      go None q f = unfold unless in (let l = barred_none lim st e q in let_ran st e t (run lim (finish st e) t) l (f l))
+      go (Some y) q f = unfold unless Ran in λ z w. absurd ((barred_some lim st e y q).1 (within_lets st e t z w))
 
 -- ---- the cells that were passed, where a run is done
 
-pub unless_done : (o : Option Refusal) (x : Scan) (u : Totals) (n : ℕ) → unless o x ≡ done u n → (o ≡ none) × (x ≡ done u n)
+pub unless_done : (o : Option Refusal) (x : Scan) (u : Totals) (n : ℕ) → unless o x ≡ Ok (u, n) → (o ≡ None) × (x ≡ Ok (u, n))
 unfolding unless
-unless_done none x u n e = (refl, e)
-unless_done (some y) x u n e = absurd (let z : ◌≡◌ {A = ℕ} 0 1 = cc in omega arith)
+unless_done None x u n e = (refl, e)
+unless_done (Some y) x u n e = absurd (let z : ◌≡◌ {A = ℕ} 0 1 = cc in omega arith)
 
 list_of : (e : Event) (t : Trace) → (sums (item e t)).list ≡ cells_of e ++ (sums t).list
 unfolding sums
 list_of (plain p cs) t = refl
 list_of (enter h) t = refl
 
-finished_done : (lim : Limits) (t : Trace) (st u : Totals) (n : ℕ) → run lim st t ≡ done u n → finished lim st t ≡ (sums t).list
+finished_done : (lim : Limits) (t : Trace) (st u : Totals) (n : ℕ) → run lim st t ≡ Ok (u, n) → finished lim st t ≡ (sums t).list
 unfolding run finished kept
 finished_done lim (ended m) st u n h = unfold sums in refl
 finished_done lim (refused y) st u n h = absurd (let z : ◌≡◌ {A = ℕ} 0 1 = cc in omega arith)
@@ -158,7 +157,7 @@ followed t s v n e =
     (r.0, sym (nil_left (sums (trace t 0 0 s))) ∙ r.1 ∙ nil_left (sums_of t 0 v))
 
 -- exactly if: such a value is accepted, and what is accepted is such a value
-pub accepts : (t : Ty) (lim : Limits) (s : List ℕ) → lim.memory < 2 ^ 64 → (v : Val t) (n : ℕ) → Accepted t lim s v n → scan t lim s ≡ done (answer t v) n
+pub accepts : (t : Ty) (lim : Limits) (s : List ℕ) → lim.memory < 2 ^ 64 → (v : Val t) (n : ℕ) → Accepted t lim s v n → scan t lim s ≡ Ok (answer t v, n)
 unfolding scan
 accepts t lim s m v n a = go (run lim start (trace t 0 0 s)) (run_ran lim m (trace t 0 0 s) start (omega arith))
   where
@@ -168,25 +167,25 @@ accepts t lim s m v n a = go (run lim start (trace t 0 0 s)) (run_ran lim m (tra
     inside : Within lim start (sums_of t 0 v)
     inside = record { deep = omega (arith, a.nests, reach_front t v); room = omega (arith, a.fills); memory = ⊎_elim (λ e. inl e) (λ e. inr (omega arith)) a.charges }
 
-    go : (x : Scan) → Ran lim start (trace t 0 0 s) x → x ≡ done (answer t v) n
-    go (done u k) h =
+    go : (x : Scan) → Ran lim start (trace t 0 0 s) x → x ≡ Ok (answer t v, n)
+    go (Ok (u, k)) h =
         let r : (ending (trace t 0 0 s) ≡ got tt k) × Within lim start (sums (trace t 0 0 s)) × (u ≡ plus start (sums (trace t 0 0 s))) = (unfold Ran in h) in
         let g : ending (trace t 0 0 s) ≡ got tt n = f.0 in
         let q : ending (trace t 0 0 s) ≡ got tt k = r.0 in
         let b : k ≡ n = cc in
-        ap₂ done (r.2 ∙ ap (plus start) f.1 ∙ answers t v) b
-    go (stopped y) h =
+        ap₂ (λ x y. Ok (x, y)) (r.2 ∙ ap (plus start) f.1 ∙ answers t v) b
+    go (Err y) h =
         let r : (sums (trace t 0 0 s)).extra ≡ 0 → Within lim start (sums (trace t 0 0 s)) → ending (trace t 0 0 s) ≡ bad y = (unfold Ran in h) in
         let q : ending (trace t 0 0 s) ≡ bad y = r (ap (λ (x : Sums). x.extra) f.1) (subst (Within lim start) (sym f.1) inside) in
         let g : ending (trace t 0 0 s) ≡ got tt n = f.0 in
         absurd (let z : ◌≡◌ {A = ℕ} 0 1 = cc in omega arith)
 
-pub accepted : (t : Ty) (lim : Limits) (s : List ℕ) → lim.memory < 2 ^ 64 → (u : Totals) (n : ℕ) → scan t lim s ≡ done u n
+pub accepted : (t : Ty) (lim : Limits) (s : List ℕ) → lim.memory < 2 ^ 64 → (u : Totals) (n : ℕ) → scan t lim s ≡ Ok (u, n)
     → (v : Val t) × Accepted t lim s v n × (u ≡ answer t v)
 unfolding scan
 accepted t lim s m u n e = go (read t 0 s) refl
   where
-    r : Ran lim start (trace t 0 0 s) (done u n)
+    r : Ran lim start (trace t 0 0 s) (Ok (u, n))
     r = subst (Ran lim start (trace t 0 0 s)) e (run_ran lim m (trace t 0 0 s) start (omega arith))
 
     q : (ending (trace t 0 0 s) ≡ got tt n) × Within lim start (sums (trace t 0 0 s)) × (u ≡ plus start (sums (trace t 0 0 s)))
@@ -214,6 +213,6 @@ accepted t lim s m u n e = go (read t 0 s) refl
         absurd (let z : ◌≡◌ {A = ℕ} 0 1 = cc in omega arith)
 
 -- and the cells that were passed are the value's
-pub passed : (t : Ty) (lim : Limits) (s : List ℕ) (v : Val t) (u : Totals) (n m : ℕ) → read t 0 s ≡ got v n → scan t lim s ≡ done u m → scanned t lim s ≡ cells t v
+pub passed : (t : Ty) (lim : Limits) (s : List ℕ) (v : Val t) (u : Totals) (n m : ℕ) → read t 0 s ≡ got v n → scan t lim s ≡ Ok (u, m) → scanned t lim s ≡ cells t v
 unfolding scan scanned
 passed t lim s v u n m e h = finished_done lim (trace t 0 0 s) start u m h ∙ ap (λ (x : Sums). x.list) (followed t s v n e).1

@@ -1,16 +1,15 @@
 -- For the proofs of code: what a function that passes one item shows at its returns: its answer is the pass's, and the cells have what the pass leaves there.
-use Rattle.std.specs.Prelude.{List, ◌≡◌, ℕ, ◌+◌, length}
+use Rattle.std.specs.Prelude.{List, ◌≡◌, ℕ, ◌+◌, length, Ok, Err}
 use Rattle.std.proofs.Common.{ap, sym, ◌∙◌, ap₂, subst}
 use Rattle.std.proofs.lemmas.List.Edits.{sets}
 use Rattle.rules.proofs.Laws.Places.{sets_join}
 use Rattle.rules.specs.Scan.Pass.{Pass, pass_none, behind, landed}
 use Rattle.rules.specs.declared.Refusal.{Refusal}
-use Rattle.rules.specs.declared.Scan.{Scan}
-use Rattle.rules.specs.declared.Scan.TheVariants.{Done as done, Refused as stopped}
+use Rattle.rules.specs.Scan.{Scan}
 use Rattle.rules.specs.declared.Totals.{Totals}
 use Rattle.rules.specs.Scan.Landing.{Lands}
 
-pub stops : (p : Pass) (y : Refusal) (r : Scan) (l : List ℕ) (st : Totals) → p ≡ pass_none (stopped y) → r ≡ stopped y → Lands p l st r l
+pub stops : (p : Pass) (y : Refusal) (r : Scan) (l : List ℕ) (st : Totals) → p ≡ pass_none (Err y) → r ≡ Err y → Lands p l st r l
 unfolding landed
 stops p y r l st e f = (f ∙ sym (ap (λ (q : Pass). q.answer) e), sym (ap (landed l st) e))
 
@@ -19,8 +18,8 @@ unfolding landed
 lands p r r' cs l m st e q f = (q ∙ sym (ap (λ (x : Pass). x.answer) e), f ∙ sym (ap (landed l st) e))
 
 -- totals with the same numbers
-pub same_done : (d d' c c' n e : ℕ) → d ≡ d' → c ≡ c' → done (record { depth = d; charge = c; cells = n }) e ≡ done (record { depth = d'; charge = c'; cells = n }) e
-same_done d d' c c' n e p q = ap₂ (λ (x y : ℕ). done (record { depth = x; charge = y; cells = n }) e) p q
+pub same_done : (d d' c c' n e : ℕ) → d ≡ d' → c ≡ c' → ◌≡◌ {A = Scan} (Ok (record { depth = d; charge = c; cells = n }, e)) (Ok (record { depth = d'; charge = c'; cells = n }, e))
+same_done d d' c c' n e p q = ap₂ (λ (x y : ℕ). Ok (record { depth = x; charge = y; cells = n }, e)) p q
 
 -- a pass that another function made
 pub same_pass_as : (p q : Pass) (r : Scan) (l m : List ℕ) (st : Totals) → p ≡ q → Lands q l st r m → Lands p l st r m

@@ -1,8 +1,7 @@
 -- For the proofs of code: the limited reader kind by kind. `pass_at` is a reader at level lv and offset `at`, with the totals so far: its answer, with the offset
 -- where it ended, and the cells of the items that it passed. Each law says what it is over its children, so that a walker's contract is met kind by kind.
-use Rattle.std.specs.Prelude.{Bool, true, false, List, ◌++◌, ◌≡◌, ℕ, zero, suc, ◌+◌, ◌-◌, leb, drop}
+use Rattle.std.specs.Prelude.{Bool, true, false, List, ◌++◌, ◌≡◌, ℕ, zero, suc, ◌+◌, ◌-◌, leb, drop, Option, Some, None, Ok, Err}
 use Rattle.std.proofs.Common.{append_assoc, sym, ◌∙◌, add-zero}
-use Rattle.std.proofs.Math.Option.{none, some, Option}
 use Rattle.std.proofs.Math.Path.{refl, ap}
 use native.Mathlib.Omega.{arith}
 use Rattle.rules.specs.Refusals.{Refusal, bit_count_at, max_bits}
@@ -13,7 +12,7 @@ use Rattle.rules.specs.Wire.{leaf_from}
 use Rattle.rules.specs.Cells.{leaf_cells}
 use Rattle.rules.specs.Totals.{foot}
 use Rattle.rules.specs.Trace.{Event, plain, Trace, ended, refused, item, Tracer, longer, ◌▷◌, follow, repeat, on, step, vector_head, bits_head, lane_trace, trace}
-use Rattle.rules.specs.Scan.{Limits, Totals, Scan, done, stopped, barred, unless, finish, run, start, cells_of, kept, finished, scan, scanned}
+use Rattle.rules.specs.Scan.{Limits, Totals, Scan, barred, unless, finish, run, start, cells_of, kept, finished, scan, scanned}
 use Rattle.rules.specs.Scan.Pass.{Pass, further, pass_from, pass_at, pass_none, behind, then_from, and_then, after, items, unless_barred, passing, headed, leaf_pass, lanes_at, bits_at}
 
 -- ---- along a trace
@@ -23,13 +22,13 @@ same_pass a c = λ i. record { answer = a i; cells = c i }
 
 further_unless : (n : ℕ) (o : Option Refusal) (x : Scan) → unless o (further n x) ≡ further n (unless o x)
 unfolding unless further
-further_unless n (some y) x = refl
-further_unless n none x = refl
+further_unless n (Some y) x = refl
+further_unless n None x = refl
 
 further_further : (a b : ℕ) (x : Scan) → further a (further b x) ≡ further (a + b) x
 unfolding further
-further_further a b (done u n) = let e : a + (b + n) ≡ a + b + n = omega arith in ap (done u) e
-further_further a b (stopped y) = refl
+further_further a b (Ok (u, n)) = let e : a + (b + n) ≡ a + b + n = omega arith in ap (λ k. Ok (u, k)) e
+further_further a b (Err y) = refl
 
 run_longer : (lim : Limits) (n : ℕ) (t : Trace) (st : Totals) → run lim st (longer n t) ≡ further n (run lim st t)
 unfolding run longer
@@ -55,20 +54,20 @@ pass_item lim st at x t = go (barred lim st x)
     go : (o : Option Refusal) → ◌≡◌ {A = Pass}
         (record { answer = further at (unless o (run lim (finish st x) t)); cells = kept o (cells_of x ++ finished lim (finish st x) t) })
         (unless_barred o (cells_of x) (record { answer = further at (run lim (finish st x) t); cells = finished lim (finish st x) t }))
-    go (some y) = unfold further unless kept unless_barred in refl
-    go none = unfold unless kept unless_barred in refl
+    go (Some y) = unfold further unless kept unless_barred in refl
+    go None = unfold unless kept unless_barred in refl
 
 then_behind : (l : List ℕ) (p : Pass) (k : Totals → ℕ → Pass) → behind l (and_then p k) ≡ and_then (behind l p) k
 then_behind l p k = go p.answer p.cells
   where
     go : (x : Scan) (m : List ℕ) → behind l (then_from x m k) ≡ then_from x (l ++ m) k
-    go (done u e) m = unfold then_from in same_pass refl (sym (append_assoc l m (k u e).cells))
-    go (stopped y) m = unfold then_from in refl
+    go (Ok (u, e)) m = unfold then_from in same_pass refl (sym (append_assoc l m (k u e).cells))
+    go (Err y) m = unfold then_from in refl
 
 then_barred : (o : Option Refusal) (l : List ℕ) (p : Pass) (k : Totals → ℕ → Pass) → unless_barred o l (and_then p k) ≡ and_then (unless_barred o l p) k
 unfolding unless_barred
-then_barred (some y) l p k = unfold then_from in refl
-then_barred none l p k = then_behind l p k
+then_barred (Some y) l p k = unfold then_from in refl
+then_barred None l p k = then_behind l p k
 
 -- a run along two traces
 pub pass_on : (lim : Limits) (k : ℕ → Trace) (t : Trace) (st : Totals) (at : ℕ) → pass_from lim st at (t ▷ k) ≡ and_then (pass_from lim st at t) (λ u e. pass_from lim u e (k (e - at)))
@@ -101,13 +100,13 @@ pub pass_leaf : (k : Leaf) (lim : Limits) (lv at : ℕ) (s : List ℕ) (st : Tot
 unfolding pass_at trace leaf_pass
 pass_leaf k lim lv at s st = go (leaf_from k at s)
   where
-    go : (r : Res ℕ) → pass_from lim st at (on r (λ v n. step (plain at (leaf_cells k v)) n)) ≡ headed lim st at r (λ v. plain at (leaf_cells k v)) (λ v e u. pass_none (done u e))
+    go : (r : Res ℕ) → pass_from lim st at (on r (λ v n. step (plain at (leaf_cells k v)) n)) ≡ headed lim st at r (λ v. plain at (leaf_cells k v)) (λ v e u. pass_none (Ok (u, e)))
     go (got v n) = unfold on headed in (pass_item lim st at (plain at (leaf_cells k v)) (ended n) ∙ (unfold pass_from run finished further in refl))
     go (bad y) = unfold on headed pass_from run finished further in refl
 
-pub pass_nothing : (lim : Limits) (lv at : ℕ) (s : List ℕ) (st : Totals) → pass_at nothing lim lv at s st ≡ pass_none (done st at)
+pub pass_nothing : (lim : Limits) (lv at : ℕ) (s : List ℕ) (st : Totals) → pass_at nothing lim lv at s st ≡ pass_none (Ok (st, at))
 unfolding pass_at trace pass_from run finished further
-pass_nothing lim lv at s st = ap (λ e. pass_none (done st e)) (add-zero at)
+pass_nothing lim lv at s st = ap (λ e. pass_none (Ok (st, e))) (add-zero at)
 
 -- what goes on, goes on from an offset past `at`
 then_same : (lim : Limits) (st : Totals) (at : ℕ) (t : Trace) (k k' : Totals → ℕ → Pass) → ((u : Totals) (n : ℕ) → k u (at + n) ≡ k' u (at + n))
@@ -116,8 +115,8 @@ unfolding pass_from
 then_same lim st at t k k' h = go (run lim st t)
   where
     go : (x : Scan) → then_from (further at x) (finished lim st t) k ≡ then_from (further at x) (finished lim st t) k'
-    go (done u n) = unfold further then_from in ap (behind (finished lim st t)) (h u n)
-    go (stopped y) = unfold further then_from in refl
+    go (Ok (u, n)) = unfold further then_from in ap (behind (finished lim st t)) (h u n)
+    go (Err y) = unfold further then_from in refl
 
 -- one trace after another
 pass_follow : (p q : Tracer) (lim : Limits) (at : ℕ) (s : List ℕ) (st : Totals)
@@ -133,7 +132,7 @@ pass_pair t u lim lv at s st = pass_follow (trace t lv) (trace u lv) lim at s st
 
 repeat_items : (t : Ty) (lim : Limits) (lv n at : ℕ) (s : List ℕ) (st : Totals) → pass_from lim st at (repeat n (trace t lv) at s) ≡ items n (pass_at t lim lv) at s st
 unfolding repeat items pass_at
-repeat_items t lim lv zero at s st = unfold pass_from run finished further in ap (λ e. pass_none (done st e)) (add-zero at)
+repeat_items t lim lv zero at s st = unfold pass_from run finished further in ap (λ e. pass_none (Ok (st, e))) (add-zero at)
 repeat_items t lim lv (suc n) at s st =
     pass_follow (trace t lv) (repeat n (trace t lv)) lim at s st
     ∙ ap (and_then (pass_from lim st at (trace t lv at s))) (λ i u e. repeat_items t lim lv n e (drop (e - at) s) u i)
@@ -166,7 +165,7 @@ unfolding pass_at trace lanes_at
 pass_bits lim lv at s st = go (leaf_from (compact w4) at s)
   where
     inner : (c n : ℕ) (b : Bool) → pass_from lim st at (pick b (step (bits_head lv at c) n ▷ (λ m. lane_trace c at (at + m) (drop m s))) (refused (bit_count_at at)))
-        ≡ pick b (passing lim st (bits_head lv at c) (lanes_at lim c at s (at + n))) (pass_none (stopped (bit_count_at at)))
+        ≡ pick b (passing lim st (bits_head lv at c) (lanes_at lim c at s (at + n))) (pass_none (Err (bit_count_at at)))
     inner c n true =
         let e : n ≡ at + n - at = omega arith in
         pass_step lim st at (bits_head lv at c) n (λ m. lane_trace c at (at + m) (drop m s))
@@ -181,8 +180,8 @@ pass_bits lim lv at s st = go (leaf_from (compact w4) at s)
 
 further_none : (x : Scan) → further 0 x ≡ x
 unfolding further
-further_none (done u n) = let e : 0 + n ≡ n = omega arith in ap (done u) e
-further_none (stopped y) = refl
+further_none (Ok (u, n)) = let e : 0 + n ≡ n = omega arith in ap (λ k. Ok (u, k)) e
+further_none (Err y) = refl
 
 pub pass_front : (t : Ty) (lim : Limits) (s : List ℕ) → ((pass_at t lim 0 0 s start).answer ≡ scan t lim s) × ((pass_at t lim 0 0 s start).cells ≡ scanned t lim s)
 unfolding pass_at pass_from scan scanned

@@ -1,7 +1,6 @@
 -- Why a scan is refused: by a limit, at the first item that it bars, or by the written rule, where the limits let every item pass; with that number and place, both ways.
-use Rattle.std.specs.Prelude.{List, ◌≡◌, refl, ℕ}
+use Rattle.std.specs.Prelude.{List, ◌≡◌, refl, ℕ, Option, Some, None, Err}
 use Rattle.std.proofs.Common.{inl, inr, ap, sym, ◌∙◌, subst, arith}
-use Rattle.std.proofs.Math.Option.{none, some, Option}
 use Rattle.rules.specs.Refusals.{Refusal}
 use Rattle.rules.specs.Types.{Ty, Val}
 use Rattle.rules.specs.Parser.{Res, got, bad}
@@ -10,33 +9,33 @@ use Rattle.rules.specs.Trace.{Event, Trace, ended, refused, item, trace}
 use Rattle.rules.specs.Trace.Sums.{◌⊕◌, nil, ending, Traces}
 use Rattle.rules.specs.Trace.Follows.{sums_of}
 use Rattle.rules.proofs.Laws.Trace.Follows.{along}
-use Rattle.rules.specs.Scan.{Limits, Totals, stopped, barred, unless, finish, run, start, scan}
+use Rattle.rules.specs.Scan.{Limits, Totals, barred, unless, finish, run, start, scan}
 use Rattle.rules.specs.Scan.Barred.{Lets, Bars}
 use Rattle.rules.proofs.Laws.Scan.Barred.{barred_by, barred_none, bars_some, lets_none}
 use Rattle.rules.proofs.Laws.Scan.Accept.{followed}
 use Rattle.rules.specs.Scan.Refuse.{Stops, Refuses, barring, ruling, by_limit, by_rule}
 
-run_stopped : (lim : Limits) (t : Trace) (st : Totals) (y : Refusal) → run lim st t ≡ stopped y → Stops lim st t y
+run_stopped : (lim : Limits) (t : Trace) (st : Totals) (y : Refusal) → run lim st t ≡ Err y → Stops lim st t y
 unfolding run unless ending
 run_stopped lim (ended n) st y e = absurd (let z : ◌≡◌ {A = ℕ} 0 1 = cc in omega arith)
 run_stopped lim (refused x) st y e = let z : x ≡ y = cc in ruling tt (ap bad z)
 run_stopped lim (item f t) st y e = go (barred lim st f) refl e (run_stopped lim t (finish st f) y)
   where
-    go : (o : Option Refusal) → barred lim st f ≡ o → unless o (run lim (finish st f) t) ≡ stopped y → (run lim (finish st f) t ≡ stopped y → Stops lim (finish st f) t y)
+    go : (o : Option Refusal) → barred lim st f ≡ o → unless o (run lim (finish st f) t) ≡ Err y → (run lim (finish st f) t ≡ Err y → Stops lim (finish st f) t y)
         → Stops lim st (item f t) y
-    go (some x) q k h = let z : x ≡ y = cc in barring st f (inl (refl, refl)) (subst (Bars lim st f) z (barred_by lim st f x q))
-    go none q k h = later (barred_none lim st f q) (h k)
+    go (Some x) q k h = let z : x ≡ y = cc in barring st f (inl (refl, refl)) (subst (Bars lim st f) z (barred_by lim st f x q))
+    go None q k h = later (barred_none lim st f q) (h k)
       where
         later : Lets lim st f → Stops lim (finish st f) t y → Stops lim st (item f t) y
         later l (barring u e m b) = barring u e (inr (l, m)) b
         later l (ruling p r) = ruling (l, p) r
 
-stops_run : (lim : Limits) (t : Trace) (st : Totals) (y : Refusal) → Stops lim st t y → run lim st t ≡ stopped y
+stops_run : (lim : Limits) (t : Trace) (st : Totals) (y : Refusal) → Stops lim st t y → run lim st t ≡ Err y
 unfolding run unless ending
 stops_run lim (ended n) st y (barring u e m b) = absurd m
 stops_run lim (ended n) st y (ruling p r) = absurd (let z : ◌≡◌ {A = ℕ} 0 1 = cc in omega arith)
 stops_run lim (refused x) st y (barring u e m b) = absurd m
-stops_run lim (refused x) st y (ruling p r) = let z : x ≡ y = cc in ap stopped z
+stops_run lim (refused x) st y (ruling p r) = let z : x ≡ y = cc in ap Err z
 stops_run lim (item f t) st y (barring u e (inl m) b) =
     let b' : Bars lim st f y = subst (λ (g : Event). Bars lim st g y) (sym m.1) (subst (λ (w : Totals). Bars lim w e y) (sym m.0) b) in
     ap (λ (o : Option Refusal). unless o (run lim (finish st f) t)) (bars_some lim st f y b')
@@ -49,7 +48,7 @@ ends_so : (t : Ty) (s : List ℕ) (y : Refusal) → read t 0 s ≡ bad y → end
 unfolding Traces
 ends_so t s y e = subst (λ r. Traces nil (trace t 0 0 s) r (λ v. nil ⊕ sums_of t 0 v)) e (along t 0 0 s nil)
 
-pub scan_refused : (t : Ty) (lim : Limits) (s : List ℕ) (y : Refusal) → scan t lim s ≡ stopped y → Refuses t lim s y
+pub scan_refused : (t : Ty) (lim : Limits) (s : List ℕ) (y : Refusal) → scan t lim s ≡ Err y → Refuses t lim s y
 unfolding scan
 scan_refused t lim s y e = go (run_stopped lim (trace t 0 0 s) start y e)
   where
@@ -61,7 +60,7 @@ scan_refused t lim s y e = go (run_stopped lim (trace t 0 0 s) start y e)
     go (barring u f m b) = by_limit u f m b
     go (ruling p r) = by_rule p (so r (read t 0 s) refl)
 
-pub scan_refuses : (t : Ty) (lim : Limits) (s : List ℕ) (y : Refusal) → Refuses t lim s y → scan t lim s ≡ stopped y
+pub scan_refuses : (t : Ty) (lim : Limits) (s : List ℕ) (y : Refusal) → Refuses t lim s y → scan t lim s ≡ Err y
 unfolding scan
 scan_refuses t lim s y (by_limit u e m b) = stops_run lim (trace t 0 0 s) start y (barring u e m b)
 scan_refuses t lim s y (by_rule p r) = stops_run lim (trace t 0 0 s) start y (ruling p (ends_so t s y r))

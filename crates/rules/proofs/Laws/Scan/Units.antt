@@ -1,7 +1,6 @@
 -- Types of footprint 0, which are units and pairs and arrays of them, take no bytes. So what a reader meets there is known from the number of their cells, without a
 -- walk: either all of them are passed, or as many as there is room for.
-use Rattle.std.specs.Prelude.{List, [], ◌∷◌, ◌≡◌, ℕ, zero, suc, ◌+◌, ◌-◌, ◌*◌, ◌^◌, ◌≤◌, ◌<◌, min, drop}
-use Rattle.std.proofs.Math.Option.{none, some, Option}
+use Rattle.std.specs.Prelude.{List, [], ◌∷◌, ◌≡◌, ℕ, zero, suc, ◌+◌, ◌-◌, ◌*◌, ◌^◌, ◌≤◌, ◌<◌, min, drop, Option, Some, None, Ok, Err}
 use Rattle.std.proofs.Math.Path.{refl, ap, sym}
 use Rattle.std.proofs.Common.{◌∙◌, subst, add-zero, lt-ltb, le-ltb}
 use Rattle.std.proofs.Math.Decide.{dec_le}
@@ -14,24 +13,24 @@ use Rattle.rules.specs.Wire.{leaf_from}
 use Rattle.rules.specs.Cells.{leaf_cells}
 use Rattle.rules.specs.Totals.{leaf_foot, foot, unit_cells}
 use Rattle.rules.specs.Trace.{plain}
-use Rattle.rules.specs.Scan.{Limits, Totals, done, stopped, barred, finish}
+use Rattle.rules.specs.Scan.{Limits, Totals, barred, finish}
 use Rattle.rules.specs.Scan.Pass.{Pass, Passer, pass_at, pass_none, behind, then_from, and_then, after, items, unless_barred, passing, headed, leaf_pass}
 use Rattle.rules.proofs.Laws.Scan.Pass.{same_pass, pass_leaf, pass_nothing, pass_pair, pass_array}
 use Rattle.rules.proofs.Laws.Scan.Barred.{lets_none}
 use Rattle.rules.specs.Scan.Units.{plus_cells, zeros, units_at}
 
 -- all of them pass, or there is no room for the last
-pub units_fit : (lim : Limits) (st : Totals) (at m : ℕ) → st.cells + m ≤ lim.cells → units_at lim st at m ≡ record { answer = done (plus_cells st m) at; cells = zeros m }
+pub units_fit : (lim : Limits) (st : Totals) (at m : ℕ) → st.cells + m ≤ lim.cells → units_at lim st at m ≡ record { answer = Ok (plus_cells st m, at); cells = zeros m }
 unfolding units_at
 units_fit lim st at m h =
     let e : min m (lim.cells - st.cells) ≡ m = omega arith in
-    same_pass (ap (λ b. pick b (stopped (room_at at)) (done (plus_cells st m) at)) (le-ltb lim.cells (st.cells + m) h)) (ap zeros e)
+    same_pass (ap (λ b. pick b (Err (room_at at)) (Ok (plus_cells st m, at))) (le-ltb lim.cells (st.cells + m) h)) (ap zeros e)
 
-pub units_stop : (lim : Limits) (st : Totals) (at m : ℕ) → lim.cells < st.cells + m → units_at lim st at m ≡ record { answer = stopped (room_at at); cells = zeros (lim.cells - st.cells) }
+pub units_stop : (lim : Limits) (st : Totals) (at m : ℕ) → lim.cells < st.cells + m → units_at lim st at m ≡ record { answer = Err (room_at at); cells = zeros (lim.cells - st.cells) }
 unfolding units_at
 units_stop lim st at m h =
     let e : min m (lim.cells - st.cells) ≡ lim.cells - st.cells = omega arith in
-    same_pass (ap (λ b. pick b (stopped (room_at at)) (done (plus_cells st m) at)) (lt-ltb lim.cells (st.cells + m) h)) (ap zeros e)
+    same_pass (ap (λ b. pick b (Err (room_at at)) (Ok (plus_cells st m, at))) (lt-ltb lim.cells (st.cells + m) h)) (ap zeros e)
 
 plus_plus : (st : Totals) (a b : ℕ) → plus_cells (plus_cells st a) b ≡ plus_cells st (a + b)
 plus_plus st a b = let e : st.cells + a + b ≡ st.cells + (a + b) = omega arith in ap (λ c. record { depth = st.depth; charge = st.charge; cells = c }) e
@@ -47,7 +46,7 @@ units_then lim st at a b k h f = go (dec_le (st.cells + a) lim.cells) (dec_le (s
     go : Dec (st.cells + a ≤ lim.cells) → Dec (st.cells + (a + b) ≤ lim.cells) → and_then (units_at lim st at a) k ≡ units_at lim st at (a + b)
     go (yes p) (yes q) =
         first p ∙ ap (behind (zeros a)) (units_fit lim (plus_cells st a) at b (omega arith))
-        ∙ same_pass (ap (λ u. done u at) (plus_plus st a b)) (replicate-append-replicate a b 0) ∙ sym (units_fit lim st at (a + b) q)
+        ∙ same_pass (ap (λ u. Ok (u, at)) (plus_plus st a b)) (replicate-append-replicate a b 0) ∙ sym (units_fit lim st at (a + b) q)
     go (yes p) (no q) =
         let e : a + (lim.cells - (st.cells + a)) ≡ lim.cells - st.cells = omega arith in
         first p ∙ ap (behind (zeros a)) (units_stop lim (plus_cells st a) at b (omega arith))
@@ -56,31 +55,31 @@ units_then lim st at a b k h f = go (dec_le (st.cells + a) lim.cells) (dec_le (s
         ap (λ q. and_then q k) (units_stop lim st at a (omega arith)) ∙ (unfold then_from in sym (units_stop lim st at (a + b) (omega arith)))
 
 -- none
-pub units_none : (lim : Limits) (st : Totals) (at : ℕ) → st.cells ≤ lim.cells → pass_none (done st at) ≡ units_at lim st at 0
+pub units_none : (lim : Limits) (st : Totals) (at : ℕ) → st.cells ≤ lim.cells → pass_none (Ok (st, at)) ≡ units_at lim st at 0
 units_none lim st at h =
     let e : st.cells ≡ st.cells + 0 = omega arith in
-    same_pass (ap (λ c. done (record { depth = st.depth; charge = st.charge; cells = c }) at) e) refl ∙ sym (units_fit lim st at 0 (omega arith))
+    same_pass (ap (λ c. Ok (record { depth = st.depth; charge = st.charge; cells = c }, at)) e) refl ∙ sym (units_fit lim st at 0 (omega arith))
 
 -- one
-one_unit : (lim : Limits) (st : Totals) (at : ℕ) → passing lim st (plain at (0 ∷ [])) (λ u. pass_none (done u at)) ≡ units_at lim st at 1
+one_unit : (lim : Limits) (st : Totals) (at : ℕ) → passing lim st (plain at (0 ∷ [])) (λ u. pass_none (Ok (u, at))) ≡ units_at lim st at 1
 unfolding unless_barred finish
 one_unit lim st at = go (dec_le (st.cells + 1) lim.cells)
   where
     after_limit : Option Refusal → Pass
-    after_limit o = unless_barred o (0 ∷ []) (pass_none (done (finish st (plain at (0 ∷ []))) at))
+    after_limit o = unless_barred o (0 ∷ []) (pass_none (Ok (finish st (plain at (0 ∷ [])), at)))
 
-    go : Dec (st.cells + 1 ≤ lim.cells) → passing lim st (plain at (0 ∷ [])) (λ u. pass_none (done u at)) ≡ units_at lim st at 1
+    go : Dec (st.cells + 1 ≤ lim.cells) → passing lim st (plain at (0 ∷ [])) (λ u. pass_none (Ok (u, at))) ≡ units_at lim st at 1
     go (yes p) = ap after_limit (lets_none lim st (plain at (0 ∷ [])) p) ∙ sym (units_fit lim st at 1 p)
     go (no p) =
-        let b : barred lim st (plain at (0 ∷ [])) ≡ some (room_at at) =
-        (unfold barred in ap (λ b. pick b (some (room_at at)) none) (lt-ltb lim.cells (st.cells + 1) (omega arith))) in
+        let b : barred lim st (plain at (0 ∷ [])) ≡ Some (room_at at) =
+        (unfold barred in ap (λ b. pick b (Some (room_at at)) None) (lt-ltb lim.cells (st.cells + 1) (omega arith))) in
         let z : 0 ≡ lim.cells - st.cells = omega arith in
         ap after_limit b ∙ same_pass refl (ap zeros z) ∙ sym (units_stop lim st at 1 (omega arith))
 
 units_one : (lim : Limits) (lv at : ℕ) (s : List ℕ) (st : Totals) → pass_at (leaf unit) lim lv at s st ≡ units_at lim st at 1
 unfolding leaf_pass leaf_from headed leaf_cells
 units_one lim lv at s st =
-    pass_leaf unit lim lv at s st ∙ ap (λ e. passing lim st (plain at (0 ∷ [])) (λ u. pass_none (done u e))) (add-zero at) ∙ one_unit lim st at
+    pass_leaf unit lim lv at s st ∙ ap (λ e. passing lim st (plain at (0 ∷ [])) (λ u. pass_none (Ok (u, e)))) (add-zero at) ∙ one_unit lim st at
 
 size_pos : (w : Width) → size w ≡ 0 → ⊥
 size_pos w1 e = omega arith

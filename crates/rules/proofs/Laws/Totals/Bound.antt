@@ -1,7 +1,6 @@
 -- Bounds by a type: an encoding is at most as long as the longest length, and that is at most twice the footprint. And by cells: nine bytes for each at most.
-use Rattle.std.specs.Prelude.{List, ◌++◌, [], ◌∷◌, ◌≡◌, ℕ, ◌+◌, ◌*◌, ◌/◌, ◌%◌, ◌^◌, max, ◌≤◌, ◌<◌, length}
+use Rattle.std.specs.Prelude.{List, ◌++◌, [], ◌∷◌, ◌≡◌, ℕ, ◌+◌, ◌*◌, ◌/◌, ◌%◌, ◌^◌, max, ◌≤◌, ◌<◌, length, Option, Some, None}
 use Rattle.std.proofs.Common.{inl, inr, subst, le_of_eq, le_trans, mul-le-mul_left, lt_of_le_of_lt, lit≤, lit<}
-use Rattle.std.proofs.Math.Option.{none, some, Option}
 use native.Mathlib.Omega.{arith}
 use Rattle.std.proofs.Math.ListN.{length-append}
 use Rattle.rules.specs.Basics.{pick, All, flat}
@@ -17,9 +16,9 @@ use Rattle.rules.proofs.Laws.Compact.Bound.{compact_longest}
 use Rattle.rules.specs.Totals.Bound.{AtMost, Twice}
 
 join_most : (f : ℕ → ℕ → ℕ) (a b : Option ℕ) (x y z : ℕ) → AtMost a x → AtMost b y → ((m n : ℕ) → x ≤ m → y ≤ n → z ≤ f m n) → AtMost (join f a b) z
-join_most f (some m) (some n) x y z h g k = k m n h g
-join_most f (some m) none x y z h g k = tt
-join_most f none b x y z h g k = tt
+join_most f (Some m) (Some n) x y z h g k = k m n h g
+join_most f (Some m) None x y z h g k = tt
+join_most f None b x y z h g k = tt
 
 leaf_most : (k : Leaf) (v : ℕ) → v < bound k → length (leaf_bytes k v) ≤ leaf_longest k
 unfolding leaf_bytes
@@ -35,13 +34,13 @@ all_most t m h [] a = omega arith
 all_most t m h (v ∷ vs) a = omega (arith, h v a.0, all_most t m h vs a.1, length-append (encode t v) (flat (encode t) vs))
 
 array_most : (n : ℕ) (t : Ty) (o : Option ℕ) → ((v : Val t) → Fits t v → AtMost o (length (encode t v))) → (vs : List (Val t)) → length vs ≡ n → All (Fits t) vs
-    → AtMost (join ◌*◌ (some n) o) (length (flat (encode t) vs))
-array_most n t none h vs e a = tt
-array_most n t (some m) h vs e a = subst (λ x. length (flat (encode t) vs) ≤ x * m) e (all_most t m h vs a)
+    → AtMost (join ◌*◌ (Some n) o) (length (flat (encode t) vs))
+array_most n t None h vs e a = tt
+array_most n t (Some m) h vs e a = subst (λ x. length (flat (encode t) vs) ≤ x * m) e (all_most t m h vs a)
 
 none_most : (o : Option ℕ) → AtMost o 0
-none_most none = tt
-none_most (some m) = omega arith
+none_most None = tt
+none_most (Some m) = omega arith
 
 -- every encoding is at most as long as the longest length, where there is one
 pub written_most : (t : Ty) (v : Val t) → Fits t v → AtMost (longest t) (length (encode t v))
@@ -79,9 +78,9 @@ leaf_foot_lem (compact w) = compact_foot w
 leaf_foot_lem (float w) = omega arith
 
 join_twice : (g : ℕ → ℕ → ℕ) (a b : Option ℕ) (x y z : ℕ) → Twice a x → Twice b y → ((m n : ℕ) → m ≤ 2 * x → n ≤ 2 * y → g m n ≤ 2 * z) → Twice (join g a b) z
-join_twice g (some m) (some n) x y z h k f = f m n h k
-join_twice g (some m) none x y z h k f = tt
-join_twice g none b x y z h k f = tt
+join_twice g (Some m) (Some n) x y z h k f = f m n h k
+join_twice g (Some m) None x y z h k f = tt
+join_twice g None b x y z h k f = tt
 
 pub longest_twice : (t : Ty) → Twice (longest t) (foot t)
 unfolding longest foot
@@ -91,9 +90,9 @@ longest_twice (result t u) = join_twice (λ a b. 1 + max a b) (longest t) (longe
 longest_twice (pair t u) = join_twice ◌+◌ (longest t) (longest u) (foot t) (foot u) _ (longest_twice t) (longest_twice u) (λ m n p q. omega arith)
 longest_twice (array n t) = go (longest t) (longest_twice t)
   where
-    go : (o : Option ℕ) → Twice o (foot t) → Twice (join ◌*◌ (some n) o) (n * foot t)
-    go none h = tt
-    go (some m) h = let e : n * (2 * foot t) ≡ 2 * (n * foot t) = omega arith in le_trans (mul-le-mul_left n h) (le_of_eq e)
+    go : (o : Option ℕ) → Twice o (foot t) → Twice (join ◌*◌ (Some n) o) (n * foot t)
+    go None h = tt
+    go (Some m) h = let e : n * (2 * foot t) ≡ 2 * (n * foot t) = omega arith in le_trans (mul-le-mul_left n h) (le_of_eq e)
 longest_twice (vector t) = tt
 longest_twice bits = tt
 

@@ -6,7 +6,7 @@ use Rattle.std.proofs.Common.{◌∙◌, subst, arith}
 use Rattle.std.proofs.Math.Decide.{dec_le}
 use Rattle.std.proofs.Math.ListN.{length-append}
 use Rattle.std.proofs.lemmas.List.{take-append-le, drop-append-le}
-use Rattle.rules.specs.Refusals.{Refusal, tag_at, bit_count_at, max_bits}
+use Rattle.rules.specs.Refusals.{Refusal, tag_at, bit_count_at, max_bits, number_of}
 use Rattle.rules.specs.Basics.{pick, choose}
 use Rattle.rules.specs.Types.{w4, Leaf, unit, bool, opt_bool, fixed, compact, float, size, Ty, leaf, nothing, result, pair, array, vector, bits, Val}
 use Rattle.rules.specs.Bytes.{le_value}
@@ -34,7 +34,7 @@ small_extends m at [] x = unfold Extends in inl refl
 small_extends m at (b ∷ s) x = same_extends (pick (ltb b m) (got b 1) (bad (tag_at at))) (pick (ltb b m) (got b 1) (bad (tag_at at))) refl
 
 -- n units are there, and they decide, or it is short
-whole_extends : {A : Type 0} (n : ℕ) (y : Refusal) → y.number ≡ 10 → (s x : List ℕ) (g : List ℕ → Res A) → Extends (whole n y s g) (whole n y (s ++ x) g)
+whole_extends : {A : Type 0} (n : ℕ) (y : Refusal) → number_of y.reason ≡ 10 → (s x : List ℕ) (g : List ℕ → Res A) → Extends (whole n y s g) (whole n y (s ++ x) g)
 whole_extends n y q s x g = go (dec_le n (length s))
   where
     go : Dec (n ≤ length s) → Extends (whole n y s g) (whole n y (s ++ x) g)
