@@ -1,8 +1,15 @@
 -- From the rule's numbers to the code's answers and back: a 128-bit value is two 64-bit halves.
-use Rattle.std.specs.Prelude.{ℕ, ◌+◌, ◌*◌, ◌/◌, ◌%◌, ◌^◌}
+use Rattle.std.specs.Prelude.{ℕ, ◌+◌, ◌*◌, ◌/◌, ◌%◌, ◌^◌, Result, Ok, Err}
+use Rattle.rules.specs.Refusals.{number_of}
 use Rattle.rules.specs.Compact.{Answer, value, short, prefix, range}
-use Rattle.compact.specs.declared.Reading.{Reading}
-use Rattle.compact.specs.declared.Reading.TheVariants.{Value, Short, Prefix, Range}
+use Rattle.rules.specs.declared.Halves.{Halves}
+use Rattle.compact.specs.Faults.{reason_of}
+use Rattle.compact.specs.declared.Fault.{Fault}
+use Rattle.compact.specs.declared.Fault.TheVariants.{Short, Prefix, Range}
+
+-- what reading answers: a value with the bytes that it took, or its fault
+abbrev pub Reading : Type 0
+Reading = Result (Halves × ℕ) Fault
 
 -- the value of two halves
 abbrev pub whole : ℕ → ℕ → ℕ
@@ -10,17 +17,17 @@ whole low high = low + high * 2 ^ 64
 
 -- an answer of the rule as the code gives it
 abbrev pub in_halves : Answer → Reading
-in_halves (value v n) = Value (v % 2 ^ 64) (v / 2 ^ 64) n
-in_halves short = Short
-in_halves prefix = Prefix
-in_halves range = Range
+in_halves (value v n) = Ok (record { low = v % 2 ^ 64; high = v / 2 ^ 64 }, n)
+in_halves short = Err Short
+in_halves prefix = Err Prefix
+in_halves range = Err Range
 
 -- the answer of the rule that the code's says
 abbrev pub said : Reading → Answer
-said (Value low high n) = value (whole low high) n
-said Short = short
-said Prefix = prefix
-said Range = range
+said (Ok (v, n)) = value (whole v.low v.high) n
+said (Err Short) = short
+said (Err Prefix) = prefix
+said (Err Range) = range
 
 -- an answer by its fields: its number, and 0 in each other field of a refusal
 -- (the place is where the bytes start)
@@ -35,7 +42,5 @@ abbrev pub refused : ℕ → Fields
 refused n = record { number = n; place = 0; low = 0; high = 0; used = 0 }
 
 abbrev pub fields : Reading → Fields
-fields (Value low high used) = record { number = 0; place = 0; low = low; high = high; used = used }
-fields Short = refused 10
-fields Prefix = refused 12
-fields Range = refused 13
+fields (Ok (v, used)) = record { number = 0; place = 0; low = v.low; high = v.high; used = used }
+fields (Err f) = refused (number_of (reason_of f))

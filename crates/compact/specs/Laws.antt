@@ -1,5 +1,5 @@
 -- The law of the public answer: a number is read exactly if the bytes open with its encoding. Then what a caller knows of a value that was read.
-use Rattle.std.specs.Prelude.{List, ◌↔◌, ◌≡◌, refl, ℕ, ◌*◌, ◌/◌, ◌%◌, ◌^◌, ◌≤◌, ◌<◌, length}
+use Rattle.std.specs.Prelude.{List, ◌↔◌, ◌≡◌, refl, ℕ, ◌*◌, ◌/◌, ◌%◌, ◌^◌, ◌≤◌, ◌<◌, length, Ok, Err}
 use Rattle.std.proofs.Common.{ap, ap₂, ◌∙◌, add_comm, arith, lit≤, pow_mono}
 use Rattle.std.proofs.Math.Arith.{digits_lt}
 use Rattle.rules.specs.declared.Width.{Width}
@@ -10,18 +10,16 @@ use Rattle.rules.specs.Compact.{Answer, value, short, prefix, range, compact_fro
 use Rattle.rules.proofs.Laws.Compact.Answers.{fits_lt}
 use Rattle.rules.specs.Compact.Law.{Opens}
 use Rattle.rules.proofs.Laws.Compact.Law.{compact_took, compact_exactly}
-use Rattle.compact.specs.declared.Reading.{Reading}
-use Rattle.compact.specs.declared.Reading.TheVariants.{Value, Short, Prefix, Range}
-use Rattle.compact.specs.Halves.{whole, in_halves, said, fields, refused}
+use Rattle.compact.specs.Halves.{Reading, whole, in_halves, said, fields, refused}
 
 -- ---- halves
 
 -- a value in its halves
-pub in_halves_lem : (low high n : ℕ) → low < 2 ^ 64 → in_halves (value (whole low high) n) ≡ Value low high n
+pub in_halves_lem : (low high n : ℕ) → low < 2 ^ 64 → in_halves (value (whole low high) n) ≡ Ok (record { low = low; high = high }, n)
 in_halves_lem low high n lt =
     let l : whole low high % 2 ^ 64 ≡ low = omega arith in
     let h : whole low high / 2 ^ 64 ≡ high = omega arith in
-    ap₂ (λ (x y : ℕ). Value x y n) l h
+    ap₂ (λ (x y : ℕ). Ok (record { low = x; high = y }, n)) l h
 
 -- the code's answer says the rule's
 pub said_back : (a : Answer) (r : Reading) → in_halves a ≡ r → a ≡ said r
@@ -46,17 +44,15 @@ whole_lt low high l h = rw (add_comm low (high * 2 ^ 64)) (digits_lt {q = high} 
 
 -- s is read as a value exactly if it opens with the encoding of that value, which fits the width
 pub read_exactly : (w : Width) (s : List ℕ) (low high used : ℕ) → Under 256 s → low < 2 ^ 64
-    → (in_halves (compact_from (size w) s) ≡ Value low high used) ↔ Opens (size w) (whole low high) used s
+    → (in_halves (compact_from (size w) s) ≡ Ok (record { low = low; high = high }, used)) ↔ Opens (size w) (whole low high) used s
 read_exactly w s low high used u lt =
     let law = compact_exactly (size w) (whole low high) used s (omega (arith, size_le w)) u in
     (λ e. law.0 (said_back _ _ e), λ o. ap in_halves (law.1 o) ∙ in_halves_lem low high used lt)
 
 -- an answer with a number has 0 in every other field
 pub refused_fields_lem : (r : Reading) → 0 < (fields r).number → fields r ≡ refused (fields r).number
-refused_fields_lem (Value low high used) h = absurd (omega arith)
-refused_fields_lem Short h = refl
-refused_fields_lem Prefix h = refl
-refused_fields_lem Range h = refl
+refused_fields_lem (Ok (v, used)) h = absurd (omega arith)
+refused_fields_lem (Err f) h = refl
 
 -- ---- for callers
 
@@ -66,7 +62,7 @@ pub record Took (w : Width) (s : List ℕ) (low high used : ℕ) : Type 0 where
   pub there : used ≤ length s
   pub fitting : whole low high < 2 ^ (8 * size w)
 
-pub read_took : (w : Width) (s : List ℕ) (low high used : ℕ) → in_halves (compact_from (size w) s) ≡ Value low high used → Took w s low high used
+pub read_took : (w : Width) (s : List ℕ) (low high used : ℕ) → in_halves (compact_from (size w) s) ≡ Ok (record { low = low; high = high }, used) → Took w s low high used
 read_took w s low high used e =
     let t = compact_took (size w) (whole low high) used s (said_back _ _ e) in
     record { some = t.0; there = t.1; fitting = fits_lt (size w) (whole low high) t.2 }

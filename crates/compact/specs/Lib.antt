@@ -1,3 +1,4 @@
+pub mod Faults
 pub mod Halves
 pub mod Laws
 pub mod Sizes

@@ -6,18 +6,33 @@ ghost use Rattle.std.specs.Prelude.{◌≡◌, ◌∷◌, ◌+◌, ◌-◌, ◌*
 ghost use Rattle.rules.specs.Types.{size};
 ghost use Rattle.rules.specs.Bytes.{le_value};
 ghost use Rattle.rules.specs.Compact.{significant, settled, form0, form1, form2, form3, compact_from};
+ghost use Rattle.compact.specs.Faults.{reason_of};
 ghost use Rattle.compact.specs.Halves.{whole, in_halves};
 
-use rules::Width;
+use rules::{Halves, Reason, Width};
 
-// What reading answers: a value's halves with the bytes that it took, or the refusal, 10, 12 or 13.
-#[derive(Clone, Copy)]
-pub enum Reading {
-    Value { low: u64, high: u64, used: usize },
+// Why a compact number is not read.
+#[derive(Clone, Copy, PartialEq, Eq, Debug)]
+pub enum Fault {
     Short,
     Prefix,
     Range,
 }
+
+impl From<Fault> for Reason {
+    ghost from_gives = { λ fault reason. reason ≡ reason_of fault };
+
+    fn from(fault: Fault) -> Reason {
+        match fault {
+            Fault::Short => Reason::Short,
+            Fault::Prefix => Reason::CompactPrefix,
+            Fault::Range => Reason::CompactRange,
+        }
+    }
+}
+
+// What reading answers: a value with the bytes that it took.
+pub type Reading = Result<(Halves, usize), Fault>;
 
 // A width's bytes.
 pub fn size(width: Width) -> u8
@@ -33,13 +48,13 @@ pub fn size(width: Width) -> u8
 }
 
 // How many bytes of a value are significant, none of 0.
-pub fn significant(low: u64, high: u64) -> u8
-    ensures { result ≡ significant (whole low high) }
+pub fn significant(value: Halves) -> u8
+    ensures { result ≡ significant (whole value.low value.high) }
 {
-    if high == 0 {
-        (8 - u64::leading_zeros(low) / 8) as u8
+    if value.high == 0 {
+        (8 - value.low.leading_zeros() / 8) as u8
     } else {
-        (16 - u64::leading_zeros(high) / 8) as u8
+        (16 - value.high.leading_zeros() / 8) as u8
     }
 }
 
@@ -66,98 +81,91 @@ fn joined(b: u8, s: &[u8], n: usize) -> u64
 }
 
 // The answer for a value in a form whose values start at `least`: a smaller one has a shorter form, and a larger one may not fit the width.
-fn settle(low: u64, high: u64, least: u64, w: u8, used: usize) -> Reading
-    requires { w ≤ 16 }
-    ensures { result ≡ in_halves (settled w least (whole low high) used) }
+fn settle(value: Halves, least: u64, width: Width, used: usize) -> Reading
+    ensures { result ≡ in_halves (settled (size width) least (whole value.low value.high) used) }
 {
-    if w < significant(low, high) {
-        return Reading::Range;
+    if size(width) < significant(value) {
+        return Err(Fault::Range);
     }
-    if high == 0 {
-        if low < least {
-            return Reading::Range;
-        }
+    if value.high == 0 && value.low < least {
+        return Err(Fault::Range);
     }
-    Reading::Value { low, high, used }
+    Ok((value, used))
 }
 
 // The same for n value bytes: where fewer are significant the top one is 0, and a shorter count would do.
-fn settle_long(low: u64, high: u64, n: u8, w: u8) -> Reading
-    requires { (4 ≤ n) × (n ≤ 16) × (w ≤ 16) }
-    ensures { result ≡ in_halves (settled w (max (2 ^ 30) (2 ^ (8 * (n - 1)))) (whole low high) (n + 1)) }
+fn settle_long(value: Halves, n: u8, width: Width) -> Reading
+    requires { (4 ≤ n) × (n ≤ 16) }
+    ensures { result ≡ in_halves (settled (size width) (max (2 ^ 30) (2 ^ (8 * (n - 1)))) (whole value.low value.high) (n + 1)) }
 {
-    if significant(low, high) < n {
-        return Reading::Range;
+    if significant(value) < n {
+        return Err(Fault::Range);
     }
-    settle(low, high, 1073741824, w, n as usize + 1)
+    settle(value, 1073741824, width, n as usize + 1)
 }
 
 // Form 0: the value stands in the first byte.
-fn one(b: u8, w: u8) -> Reading
-    requires { w ≤ 16 }
-    ensures { result ≡ in_halves (form0 w b) }
+fn one(b: u8, width: Width) -> Reading
+    ensures { result ≡ in_halves (form0 (size width) b) }
 {
-    settle(upper(b) as u64, 0, 0, w, 1)
+    settle(Halves::from(upper(b) as u64), 0, width, 1)
 }
 
 // Form 1: the first byte and one more.
-fn two(b: u8, s: &[u8], w: u8) -> Reading
-    requires { w ≤ 16 }
-    ensures { result ≡ in_halves (form1 w b s.now) }
+fn two(b: u8, s: &[u8], width: Width) -> Reading
+    ensures { result ≡ in_halves (form1 (size width) b s.now) }
 {
     if s.len() < 1 {
-        return Reading::Short;
+        return Err(Fault::Short);
     }
-    settle(joined(b, s, 1), 0, 64, w, 2)
+    settle(Halves::from(joined(b, s, 1)), 64, width, 2)
 }
 
 // Form 2: the first byte and three more, refused before these are looked for at u8, where no value needs them.
-fn four(b: u8, s: &[u8], w: u8) -> Reading
-    requires { w ≤ 16 }
-    ensures { result ≡ in_halves (form2 w b s.now) }
+fn four(b: u8, s: &[u8], width: Width) -> Reading
+    ensures { result ≡ in_halves (form2 (size width) b s.now) }
 {
-    if w < 2 {
-        return Reading::Prefix;
+    if size(width) < 2 {
+        return Err(Fault::Prefix);
     }
     if s.len() < 3 {
-        return Reading::Short;
+        return Err(Fault::Short);
     }
-    settle(joined(b, s, 3), 0, 16384, w, 4)
+    settle(Halves::from(joined(b, s, 3)), 16384, width, 4)
 }
 
 // Form 3: n value bytes, refused before they are looked for where the width has fewer, as out of range at u32 and by the prefix elsewhere.
-fn many(n: u8, s: &[u8], w: u8) -> Reading
-    requires { (4 ≤ n) × (w ≤ 16) }
-    ensures { result ≡ in_halves (form3 w n s.now) }
+fn many(n: u8, s: &[u8], width: Width) -> Reading
+    requires { 4 ≤ n }
+    ensures { result ≡ in_halves (form3 (size width) n s.now) }
 {
-    if w < n {
-        if w == 4 {
-            return Reading::Range;
+    if size(width) < n {
+        if size(width) == 4 {
+            return Err(Fault::Range);
         }
-        return Reading::Prefix;
+        return Err(Fault::Prefix);
     }
     let count = n as usize;
     if s.len() < count {
-        return Reading::Short;
+        return Err(Fault::Short);
     }
     if count <= 8 {
-        return settle_long(number::word(s, count), 0, n, w);
+        return settle_long(Halves::from(number::word(s, count)), n, width);
     }
     let low = number::word(s, 8);
     let high = number::word(&s[8..], count - 8);
-    settle_long(low, high, n, w)
+    settle_long(Halves { low, high }, n, width)
 }
 
 // What a first byte b says with s after it.
-fn read_from(b: u8, s: &[u8], w: u8) -> Reading
-    requires { w ≤ 16 }
-    ensures { result ≡ in_halves (compact_from w (b ∷ s.now)) }
+fn read_from(b: u8, s: &[u8], width: Width) -> Reading
+    ensures { result ≡ in_halves (compact_from (size width) (b ∷ s.now)) }
 {
     match form(b) {
-        0 => one(b, w),
-        1 => two(b, s, w),
-        2 => four(b, s, w),
-        _ => many(upper(b) + 4, s, w),
+        0 => one(b, width),
+        1 => two(b, s, width),
+        2 => four(b, s, width),
+        _ => many(upper(b) + 4, s, width),
     }
 }
 
@@ -166,9 +174,8 @@ pub fn read(s: &[u8], width: Width) -> Reading
     ensures { result ≡ in_halves (compact_from (size width) s.now) }
 {
     if s.len() == 0 {
-        return Reading::Short;
+        return Err(Fault::Short);
     }
-    let w = size(width);
     let b = s[0];
-    read_from(b, &s[1..], w)
+    read_from(b, &s[1..], width)
 }

@@ -106,11 +106,27 @@ pub struct Totals {
     pub cells: u64,
 }
 
-// The cells of a leaf's value: one, or the two halves of a 128-bit one, the low half first.
+// A number of 128 bits, in two halves.
+#[derive(Clone, Copy, PartialEq, Eq, Debug)]
+pub struct Halves {
+    pub low: u64,
+    pub high: u64,
+}
+
+// A number that the low half holds.
+impl From<u64> for Halves {
+    ghost from_gives = { λ low halves. halves ≡ record { low = low; high = 0 } };
+
+    fn from(low: u64) -> Halves {
+        Halves { low, high: 0 }
+    }
+}
+
+// The cells of a leaf's value: one, or those of the two halves, the low half first.
 #[derive(Clone, Copy)]
 pub enum Cells {
     One(u64),
-    Two(u64, u64),
+    Two(Halves),
 }
 
 // The most bits of a bit vector, the largest footprint, and the largest count of a vector.

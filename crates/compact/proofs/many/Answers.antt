@@ -1,30 +1,45 @@
 -- `compact::many` meets its contract: each return rewrites by the tests that led there, and the last puts the two halves together. Assumes nothing.
-use mathlib.Core.Path.{ap, ◌∙◌}
-use native.Mathlib.Omega.{arith}
-use borrow.Author.Tests.{lt-ltb, le-ltb, eq-eqb, ne_eqb}
+use Rattle.std.proofs.Common.{◌≡◌, ◌≤◌, ◌<◌, ap, ◌∙◌, arith, lt-ltb, le-ltb, eq-eqb, ne_eqb}
+use Rattle.rules.specs.Types.{size}
 use Rattle.rules.specs.Compact.{form3}
 use Rattle.rules.proofs.Laws.Compact.Answers.{form3_there}
 use Rattle.number.specs.Laws.{one_word, two_words}
 use Rattle.compact.specs.Halves.{in_halves}
+use Rattle.compact.specs.Laws.{size_le}
+use Rattle.compact.proofs.Answers.{low_half}
 use Rattle.compact.proofs.many.Goals as goal
+use Rattle.compact.proofs.many.Goals.{Then-size-n, Else-size-n}
 
-pub returns-then-w-eq4 : goal.returns-then-w-eq4
-unfolding form3
-returns-then-w-eq4 c = simp (lt-ltb _ _ c.if-w-n.true, eq-eqb _ _ c.if-w-eq4.true)
+narrow : (c : Then-size-n) → size c.args.width < c.args.n
+narrow c = omega (arith, c.size.ensures)
 
-pub returns-then-w-n : goal.returns-then-w-n
+wide : (c : Else-size-n) → c.args.n ≤ size c.args.width
+wide c = omega (arith, c.size.ensures)
+
+pub returns-then-size-eq4 : goal.returns-then-size-eq4
 unfolding form3
-returns-then-w-n c = simp (lt-ltb _ _ c.if-w-n.true, ne_eqb _ _ c.if-w-eq4.false)
+returns-then-size-eq4 c =
+    let four : size c.args.width ≡ 4 = omega (arith, c.size-then-size-n.ensures) in
+    simp (lt-ltb _ _ (narrow (goal.at.returns-then-size-eq4 c).Then-size-n), eq-eqb _ _ four)
+
+pub returns-then-size-n : goal.returns-then-size-n
+unfolding form3
+returns-then-size-n c = simp (lt-ltb _ _ (narrow (goal.at.returns-then-size-n c).Then-size-n), ne_eqb _ _ (λ e. c.if-size-eq4.false (c.size-then-size-n.ensures ∙ e)))
 
 pub returns-then-s-count : goal.returns-then-s-count
 unfolding form3
-returns-then-s-count c = simp (le-ltb _ _ c.if-w-n.false, lt-ltb _ _ c.if-s-count.true)
+returns-then-s-count c = simp (le-ltb _ _ (wide (goal.at.returns-then-s-count c).Else-size-n), lt-ltb _ _ c.if-s-count.true)
 
 pub returns-then-count-le8 : goal.returns-then-count-le8
-returns-then-count-le8 c = c.settle_long.ensures ∙ ap in_halves (form3_there _ _ _ _ (omega arith) (omega arith) (omega (arith, one_word c.args.n _ _ c.word.ensures (omega arith))))
+returns-then-count-le8 c =
+    let a = c.args in
+    let v = one_word a.n _ _ c.word.ensures (omega arith) in
+    c.settle_long.ensures
+    ∙ ap in_halves (form3_there _ _ _ _ (wide (goal.at.returns-then-count-le8 c).Else-size-n) c.if-s-count.false (low_half _ _ _ c.from.ensures v))
 
 pub returns : goal.returns
 returns c =
     let a = c.args in
-    let v = two_words a.n _ _ a.s.now (omega arith) (omega arith) c.word-low.ensures c.word-high.ensures in
-    rw (← form3_there a.w a.n _ a.s.now (omega arith) (omega arith) v) c.settle_long-2.ensures
+    let there = wide (goal.at.returns c).Else-size-n in
+    let v = two_words a.n _ _ a.s.now (omega arith) (omega (arith, there, size_le a.width)) c.word-low.ensures c.word-high.ensures in
+    rw (← form3_there _ a.n _ a.s.now there c.if-s-count.false v) c.settle_long-2.ensures

@@ -2,6 +2,7 @@
 use mathlib.Core.Path.{◌≡◌, ap, sym, ◌∙◌}
 use Prim.Native.Nat.{ℕ, ◌+◌, ◌%◌}
 use native.Mathlib.Omega.{arith}
+use Rattle.rules.specs.Types.{size}
 use Rattle.rules.specs.Compact.{form3}
 use Rattle.rules.proofs.Laws.Compact.Answers.{at_0, at_1, at_2, at_3}
 use Rattle.compact.specs.Halves.{in_halves}
@@ -20,4 +21,4 @@ pub returns-in_default : goal.returns-in_default
 returns-in_default c =
     let a = c.args in
     let e : a.b % 4 ≡ 3 = omega arith in
-    c.many.ensures ∙ ap (λ (n : ℕ). in_halves (form3 a.w (n + 4) a.s.now)) c.upper.ensures ∙ ap in_halves (at_3 _ _ _ e)
+    c.many.ensures ∙ ap (λ (n : ℕ). in_halves (form3 (size a.width) (n + 4) a.s.now)) c.upper.ensures ∙ ap in_halves (at_3 _ _ _ e)

@@ -11,4 +11,4 @@ returns-then-s-lt1 c = simp (lt-ltb _ _ c.if-s-lt1.true)
 
 pub returns : goal.returns
 unfolding form1
-returns c = simp (le-ltb _ _ c.if-s-lt1.false) (c.settle.ensures ∙ one_half _ _ _ _ _ c.joined.ensures)
+returns c = simp (le-ltb _ _ c.if-s-lt1.false) (c.settle.ensures ∙ one_half _ _ _ _ _ _ c.from.ensures c.joined.ensures)
