@@ -15,6 +15,7 @@ use Rattle.rules.proofs.Laws.Compact.Encoding.{encode_0, encode_1, encode_2, len
 use Rattle.rules.proofs.Laws.Places.{sets_onto}
 use Rattle.number.specs.Laws.{bytes_split}
 use Rattle.compact_put.specs.declared.Encoded.{Encoded}
+use Rattle.compact_put.specs.declared.Form.TheVariants.{One, Two, Four}
 use Rattle.compact.specs.Halves.{whole}
 use Rattle.compact.specs.Sizes.{significant_16, under}
 use Rattle.compact_put.specs.Padded.{padded, OfForm}
@@ -45,29 +46,22 @@ padded_is bytes l k n e m h =
 
 -- ---- the forms
 
--- past the other three
-pub last_form : (f v : ℕ) → OfForm f v → ((Prim.Unit {0} × (f ≡ 0 → ⊥)) × (f ≡ 1 → ⊥)) × (f ≡ 2 → ⊥) → 2 ^ 30 ≤ v
-last_form zero v h n = absurd (n.0.0.1 refl)
-last_form (suc zero) v h n = absurd (n.0.1 refl)
-last_form (suc (suc zero)) v h n = absurd (n.1 refl)
-last_form (suc (suc (suc f))) v h n = h
-
 -- a left shift by two that loses nothing, and the form's number below it
 tag : (m a f : ℕ) → a * 4 < m → f < 4 → bit_or ((a * 4) % m) f ≡ a * 4 + f
 tag m a f h lt = rw (mod-eq_of_lt h) (or_shifted a 2 f lt)
 
-pub plain_0 : (low high : ℕ) → OfForm 0 (whole low high) → le_bytes 1 ((low * 4) % 2 ^ 64) ≡ compact_bytes (whole low high)
-plain_0 low high h =
+pub plain_one : (low high : ℕ) → OfForm One (whole low high) → le_bytes 1 ((low * 4) % 2 ^ 64) ≡ compact_bytes (whole low high)
+plain_one low high h =
     let e : (low * 4) % 2 ^ 64 ≡ whole low high * 4 = omega arith in
     ap (le_bytes 1) e ∙ sym (encode_0 (whole low high) h)
 
-pub plain_1 : (low high : ℕ) → OfForm 1 (whole low high) → le_bytes 2 (bit_or ((low * 4) % 2 ^ 64) 1) ≡ compact_bytes (whole low high)
-plain_1 low high h =
+pub plain_two : (low high : ℕ) → OfForm Two (whole low high) → le_bytes 2 (bit_or ((low * 4) % 2 ^ 64) 1) ≡ compact_bytes (whole low high)
+plain_two low high h =
     let e : low * 4 + 1 ≡ whole low high * 4 + 1 = omega arith in
     ap (le_bytes 2) (tag (2 ^ 64) low 1 (omega arith) (lit< tt) ∙ e) ∙ sym (encode_1 (whole low high) h.0 h.1)
 
-pub plain_2 : (low high : ℕ) → OfForm 2 (whole low high) → le_bytes 4 (bit_or ((low * 4) % 2 ^ 64) 2) ≡ compact_bytes (whole low high)
-plain_2 low high h =
+pub plain_four : (low high : ℕ) → OfForm Four (whole low high) → le_bytes 4 (bit_or ((low * 4) % 2 ^ 64) 2) ≡ compact_bytes (whole low high)
+plain_four low high h =
     let e : low * 4 + 2 ≡ whole low high * 4 + 2 = omega arith in
     ap (le_bytes 4) (tag (2 ^ 64) low 2 (omega arith) (lit< tt) ∙ e) ∙ sym (encode_2 (whole low high) h.0 h.1)
 

@@ -1,6 +1,6 @@
 -- The laws of the public answers: what was written is read back, and nothing that is written is longer than the table says. Then what a caller
 -- knows of an encoding that was written.
-use Rattle.std.specs.Prelude.{List, ◌++◌, ◌≡◌, refl, ℕ, ◌+◌, ◌-◌, ◌*◌, ◌^◌, ◌≤◌, ◌<◌, length, replicate}
+use Rattle.std.specs.Prelude.{List, ◌++◌, ◌≡◌, refl, ℕ, ◌+◌, ◌-◌, ◌*◌, ◌^◌, ◌≤◌, ◌<◌, length, replicate, Ok}
 use Rattle.std.proofs.Common.{ap, ◌∙◌, lt_of_lt_of_le, arith, length-append, pow_mono, take_at}
 use Rattle.rules.specs.declared.Width.{Width}
 use Rattle.rules.specs.Types.{size}
@@ -9,7 +9,6 @@ use Rattle.rules.specs.Compact.{compact_bytes, compact_from}
 use Rattle.rules.proofs.Laws.Compact.Answers.{lt_fits}
 use Rattle.rules.proofs.Laws.Compact.Law.{compact_reads}
 use Rattle.rules.proofs.Laws.Compact.Bound.{compact_longest}
-use Rattle.compact.specs.declared.Reading.TheVariants.{Value}
 use Rattle.compact.specs.Halves.{whole, in_halves}
 use Rattle.compact.specs.Laws.{in_halves_lem, size_le}
 use Rattle.compact_put.specs.declared.Encoded.{Encoded}
@@ -29,7 +28,7 @@ written_longest w low high lt = compact_longest w (whole low high) lt
 
 -- what is written for a value of a width, with anything after it, is read there as that value, and the bytes written are those used
 pub read_written : (w : Width) (low high : ℕ) (s : List ℕ) → low < 2 ^ 64 → whole low high < 2 ^ (8 * size w)
-    → in_halves (compact_from (size w) (front (padded (compact_bytes (whole low high))) ++ s)) ≡ Value low high (padded (compact_bytes (whole low high))).len
+    → in_halves (compact_from (size w) (front (padded (compact_bytes (whole low high))) ++ s)) ≡ Ok (record { low = low; high = high }, (padded (compact_bytes (whole low high))).len)
 unfolding padded
 read_written w low high s l lt =
     let v = whole low high in

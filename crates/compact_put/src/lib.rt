@@ -9,7 +9,7 @@ ghost use Rattle.rules.specs.Compact.{significant, long, compact_bytes};
 ghost use Rattle.compact.specs.Halves.{whole};
 ghost use Rattle.compact_put.specs.Padded.{padded, OfForm};
 
-use rules::Width;
+use rules::{Halves, Width};
 
 // One encoding by value, beside its length. The bytes past the length are 0.
 #[derive(Clone, Copy)]
@@ -25,43 +25,46 @@ const LONGEST: [u8; 5] = [2, 4, 5, 9, 17];
 pub fn longest(width: Width) -> u8
     ensures { result ≡ longest_compact width }
 {
-    match width {
-        Width::W1 => LONGEST[0],
-        Width::W2 => LONGEST[1],
-        Width::W4 => LONGEST[2],
-        Width::W8 => LONGEST[3],
-        Width::W16 => LONGEST[4],
-    }
+    LONGEST[width as usize]
+}
+
+// The forms: the value in all of one, two or four bytes, or a byte that counts the value bytes, and these.
+#[derive(Clone, Copy)]
+enum Form {
+    One,
+    Two,
+    Four,
+    Counted,
 }
 
 // The first form that holds a value.
-fn form_of(low: u64, high: u64) -> u8
-    ensures { OfForm result (whole low high) }
+fn form_of(value: Halves) -> Form
+    ensures { OfForm result (whole value.low value.high) }
 {
-    if high != 0 {
-        return 3;
+    if value.high != 0 {
+        return Form::Counted;
     }
-    if low < 64 {
-        return 0;
+    if value.low < 64 {
+        return Form::One;
     }
-    if low < 16384 {
-        return 1;
+    if value.low < 16384 {
+        return Form::Two;
     }
-    if low < 1073741824 {
-        return 2;
+    if value.low < 1073741824 {
+        return Form::Four;
     }
-    3
+    Form::Counted
 }
 
 // The length of a value's encoding, which is not made for it.
-pub fn encoded_len(low: u64, high: u64) -> usize
-    ensures { result ≡ length (compact_bytes (whole low high)) }
+pub fn encoded_len(value: Halves) -> usize
+    ensures { result ≡ length (compact_bytes (whole value.low value.high)) }
 {
-    match form_of(low, high) {
-        0 => 1,
-        1 => 2,
-        2 => 4,
-        _ => compact::significant(low, high) as usize + 1,
+    match form_of(value) {
+        Form::One => 1,
+        Form::Two => 2,
+        Form::Four => 4,
+        Form::Counted => compact::significant(value) as usize + 1,
     }
 }
 
@@ -76,15 +79,15 @@ fn plain(x: u64, n: usize) -> Encoded
 }
 
 // A byte that counts the value bytes, and these: both halves are written whole, since what is not significant is 0, as are the bytes past the length.
-fn counted(low: u64, high: u64) -> Encoded
-    requires { 2 ^ 30 ≤ whole low high }
-    ensures { result ≡ padded (long (significant (whole low high)) (whole low high)) }
+fn counted(value: Halves) -> Encoded
+    requires { 2 ^ 30 ≤ whole value.low value.high }
+    ensures { result ≡ padded (long (significant (whole value.low value.high)) (whole value.low value.high)) }
 {
-    let n = compact::significant(low, high);
+    let n = compact::significant(value);
     let mut out = [0u8; 17];
     out[0] = ((n - 4) << 2) | 3;
-    number::put(&mut out, 1, low, 8);
-    number::put(&mut out, 9, high, 8);
+    number::put(&mut out, 1, value.low, 8);
+    number::put(&mut out, 9, value.high, 8);
     Encoded {
         bytes: out,
         len: n as usize + 1,
@@ -92,14 +95,14 @@ fn counted(low: u64, high: u64) -> Encoded
 }
 
 // A value's one encoding, in the first form that holds it.
-pub fn write(low: u64, high: u64) -> Encoded
-    ensures { result ≡ padded (compact_bytes (whole low high)) }
+pub fn write(value: Halves) -> Encoded
+    ensures { result ≡ padded (compact_bytes (whole value.low value.high)) }
 {
-    match form_of(low, high) {
-        0 => plain(low << 2, 1),
-        1 => plain((low << 2) | 1, 2),
-        2 => plain((low << 2) | 2, 4),
-        _ => counted(low, high),
+    match form_of(value) {
+        Form::One => plain(value.low << 2, 1),
+        Form::Two => plain((value.low << 2) | 1, 2),
+        Form::Four => plain((value.low << 2) | 2, 4),
+        Form::Counted => counted(value),
     }
 }
 
@@ -121,11 +124,11 @@ fn put_front(bytes: &[u8], n: usize, out: &mut [u8], at: usize)
 }
 
 // Puts the number's one encoding from `at` on, as far as there is room, and answers its length.
-pub fn put(low: u64, high: u64, out: &mut [u8], at: usize) -> usize
-    ensures answers { result ≡ length (compact_bytes (whole low high)) }
-    ensures writes { out.new ≡ sets out.old at (compact_bytes (whole low high)) }
+pub fn put(value: Halves, out: &mut [u8], at: usize) -> usize
+    ensures answers { result ≡ length (compact_bytes (whole value.low value.high)) }
+    ensures writes { out.new ≡ sets out.old at (compact_bytes (whole value.low value.high)) }
 {
-    let encoded = write(low, high);
+    let encoded = write(value);
     let n = encoded.len;
     let bytes = encoded.bytes;
     put_front(&bytes, n, out, at);

@@ -7,10 +7,9 @@ use Rattle.compact_put.proofs.Outputs.{counted_is}
 use Rattle.compact_put.proofs.counted.Goals as goal
 
 pub overflow_sub-out : goal.overflow_sub-out
-overflow_sub-out c = omega (arith, significant_4 (whole c.args.low c.args.high) c.requires)
+overflow_sub-out c = omega (arith, significant_4 (whole c.args.value.low c.args.value.high) c.requires)
 
 pub returns : goal.returns
 returns c =
-    let low = c.ranges.low.fits in
-    counted_is _ _ _ _ c.significant-n.ensures c.requires low c.ranges.high.fits
-    (two_puts 1 8 _ _ _ _ _ low c.put.ensures c.put-2.ensures)
+    counted_is _ _ _ _ c.significant-n.ensures c.requires (omega arith) (omega arith)
+    (two_puts 1 8 _ _ _ _ _ (omega arith) c.put.ensures c.put-2.ensures)
