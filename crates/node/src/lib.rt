@@ -2,64 +2,39 @@
 #![tactic(auto)]
 
 ghost use Rattle.std.specs.Prelude.{◌≡◌, ◌+◌, ◌*◌};
-ghost use Rattle.rules.specs.Table.{unused as if_unused, with_width, float_node, node_of, node_in};
-ghost use Rattle.node.specs.Names.{fixed, compact};
-ghost use Rattle.node.specs.Nodes.{width_named};
+ghost use Rattle.rules.specs.Table.{unused as if_unused, float_node, node_of, node_in};
+ghost use Rattle.node.specs.Nodes.{width_named, leaf_named};
 
 use rules::{Leaf, Node, Width};
-
-// A byte as an index or a count.
-fn wide(byte: u8) -> usize
-    ensures { result ≡ byte }
-{
-    byte as usize
-}
 
 // A 16-bit number, little-endian.
 fn word(low: u8, high: u8) -> usize
     ensures { result ≡ low + 256 * high }
 {
-    wide(low) + 256 * wide(high)
+    low as usize + 256 * high as usize
 }
 
-// A width, if a number names one.
-#[derive(Clone, Copy)]
-enum Named {
-    Width(Width),
-    Nothing,
-}
-
-// The width of `a` bytes.
-fn width_of(a: usize) -> Named
+// The width of `a` bytes, if there is one.
+pub fn width_of(a: usize) -> Option<Width>
     ensures { result ≡ width_named a }
 {
     match a {
-        1 => Named::Width(Width::W1),
-        2 => Named::Width(Width::W2),
-        4 => Named::Width(Width::W4),
-        8 => Named::Width(Width::W8),
-        16 => Named::Width(Width::W16),
-        _ => Named::Nothing,
+        1 => Some(Width::W1),
+        2 => Some(Width::W2),
+        4 => Some(Width::W4),
+        8 => Some(Width::W8),
+        16 => Some(Width::W16),
+        _ => None,
     }
 }
 
-// Kind 3: a fixed integer of `a` bytes.
-fn fixed_of(a: usize) -> Node
-    ensures { result ≡ with_width fixed a }
+// The node of a leaf, if there is one: its width may name none.
+fn leaf_of(leaf: Option<Leaf>) -> Node
+    ensures { result ≡ leaf_named leaf }
 {
-    match width_of(a) {
-        Named::Width(width) => Node::Leaf(Leaf::Fixed(width)),
-        Named::Nothing => Node::Unknown,
-    }
-}
-
-// Kind 4: a compact number of `a` bytes.
-fn compact_of(a: usize) -> Node
-    ensures { result ≡ with_width compact a }
-{
-    match width_of(a) {
-        Named::Width(width) => Node::Leaf(Leaf::Compact(width)),
-        Named::Nothing => Node::Unknown,
+    match leaf {
+        Some(leaf) => Node::Leaf(leaf),
+        None => Node::Unknown,
     }
 }
 
@@ -100,8 +75,8 @@ fn node_of(kind: u8, a: usize, b: usize) -> Node
         0 => unused(a, unused(b, Node::Leaf(Leaf::Unit))),
         1 => unused(a, unused(b, Node::Leaf(Leaf::Bool))),
         2 => unused(a, unused(b, Node::Leaf(Leaf::OptionBool))),
-        3 => unused(b, fixed_of(a)),
-        4 => unused(b, compact_of(a)),
+        3 => unused(b, leaf_of(width_of(a).map(Leaf::Fixed))),
+        4 => unused(b, leaf_of(width_of(a).map(Leaf::Compact))),
         5 => unused(b, float_of(a)),
         6 => unused(b, Node::Option(a)),
         7 => Node::Result(a, b),
@@ -125,7 +100,7 @@ pub fn node_at(table: &[u8], i: usize) -> Node
         return Node::Unknown;
     }
     let at = 6 + 4 * i;
-    let a = wide(table[at + 1]);
+    let a = table[at + 1] as usize;
     let b = word(table[at + 2], table[at + 3]);
     node_of(table[at], a, b)
 }

@@ -16,4 +16,4 @@ returns-then-table-i c = rw (lt-leb (6 + 4 * c.args.i + 4) (length c.args.table.
 
 pub returns : goal.returns
 unfolding node_in node_at
-returns c = rw (le-leb (6 + 4 * c.args.i + 4) (length c.args.table.now) (omega arith), ← c.wide-a.ensures, ← c.word-b.ensures) c.node_of.ensures
+returns c = rw (le-leb (6 + 4 * c.args.i + 4) (length c.args.table.now) (omega arith), ← c.word-b.ensures) c.node_of.ensures

@@ -2,6 +2,7 @@
 use mathlib.Core.Path.{◌∙◌, ap}
 use Rattle.std.proofs.Common.{rules}
 use Rattle.rules.specs.Table.{node_of, unused as if_unused}
+use Rattle.node.specs.Laws.{leaf_mapped}
 use Rattle.node.proofs.node_of.Goals as goal
 
 pub returns-in-0 : goal.returns-in-0
@@ -18,11 +19,11 @@ returns-in-2 c = rw c.in-2.is (c.unused-in-2-2.ensures ∙ ap (if_unused c.args.
 
 pub returns-in-3 : goal.returns-in-3
 unfolding node_of
-returns-in-3 c = rw c.in-3.is (c.unused-in-3.ensures ∙ ap (if_unused c.args.b) c.fixed_of.ensures)
+returns-in-3 c = rw c.in-3.is (c.unused-in-3.ensures ∙ ap (if_unused c.args.b) (leaf_mapped _ _ _ _ _ c.width_of.ensures c.map.ensures.cases c.leaf_of.ensures))
 
 pub returns-in-4 : goal.returns-in-4
 unfolding node_of
-returns-in-4 c = rw c.in-4.is (c.unused-in-4.ensures ∙ ap (if_unused c.args.b) c.compact_of.ensures)
+returns-in-4 c = rw c.in-4.is (c.unused-in-4.ensures ∙ ap (if_unused c.args.b) (leaf_mapped _ _ _ _ _ c.width_of-in-4.ensures c.map-in-4.ensures.cases c.leaf_of-in-4.ensures))
 
 pub returns-in-5 : goal.returns-in-5
 unfolding node_of
