@@ -1,5 +1,5 @@
 -- Laws of the loops over the nodes, which fill an array rising: of its first i places each has its node's number, and the others have 0. The numbers of this crate are footprints.
-use Rattle.std.specs.Prelude.{true, false, ◌≡◌, refl, length, get_or, set, replicate, Err}
+use Rattle.std.specs.Prelude.{true, false, ◌≡◌, refl, length, get_or, set, replicate, Ok, Err}
 use mathlib.Core.List.{List, ◌++◌}
 use Rattle.std.proofs.Common.{ap, ◌∙◌, add-one, below_more, length-set, length-append, get_or-set_same, get_or-set_other, get_or-append-add}
 use Rattle.std.proofs.Math.Path.{sym}
@@ -14,50 +14,50 @@ use Rattle.rules.specs.Basics.{Under}
 use Rattle.rules.specs.Refusals.{wrong_node_at, footprint_at, max_footprint}
 use Rattle.rules.specs.Types.{Ty}
 use Rattle.rules.specs.Totals.{foot}
-use Rattle.rules.specs.Table.{count, node_at, ty_at, allowed, nodes_from, head_check, check_table, numbers_from, numbers_of, footprints_of}
+use Rattle.rules.specs.Table.{count, node_at, ty_at, allowed, fine, nodes_from, head_check, check_table, numbers_from, numbers_of, footprints_of}
 use Rattle.rules.specs.Table.Laws.{Below, Passes}
 use Rattle.rules.proofs.Laws.Table.{type_prefix, allowed_below, nodes_next, nodes_wrong, nodes_large, numbers_at, numbers_length, check_nodes, head_fine}
-use Rattle.table.specs.Names.{fine}
-use Rattle.table.specs.Nodes.{foot_over, no_feet}
+use Rattle.table.specs.Nodes.{foot_over}
 use Rattle.table.specs.Laws.{foot_over_lem}
 
 -- ---- an array that is being filled
 
--- the numbers of i nodes stand in the array
-pub record Measuring (f : Ty → ℕ) (tb : List ℕ) (i : ℕ) (l : List ℕ) : Type 0 where
+-- what is found of i nodes stands in the array, and z behind it
+pub record Measuring {A : Type 0} (z : A) (f : Ty → A) (tb : List ℕ) (i : ℕ) (l : List A) : Type 0 where
   pub within : i ≤ count tb
   pub size : length l ≡ 64
-  pub done : (j : ℕ) → j < i → get_or l j 0 ≡ f (ty_at tb j)
-  pub rest : (j : ℕ) → i ≤ j → get_or l j 0 ≡ 0
+  pub done : (j : ℕ) → j < i → get_or l j z ≡ f (ty_at tb j)
+  pub rest : (j : ℕ) → i ≤ j → get_or l j z ≡ z
 
-zeros_at : (n j : ℕ) → get_or (replicate n zero) j 0 ≡ 0
-zeros_at zero j = refl
-zeros_at (suc n) zero = refl
-zeros_at (suc n) (suc j) = zeros_at n j
+same_at : {A : Type 0} (z : A) (n j : ℕ) → get_or (replicate n z) j z ≡ z
+same_at z zero j = refl
+same_at z (suc n) zero = refl
+same_at z (suc n) (suc j) = same_at z n j
 
-pub measuring_none : (f : Ty → ℕ) (tb : List ℕ) → Measuring f tb 0 (replicate 64 0)
-measuring_none f tb = record { within = omega arith; size = refl; done = λ j h. absurd (omega arith); rest = λ j h. zeros_at 64 j }
+pub measuring_none : {A : Type 0} (z : A) (f : Ty → A) (tb : List ℕ) → Measuring z f tb 0 (replicate 64 z)
+measuring_none z f tb = record { within = omega arith; size = length-replicate 64 z; done = λ j h. absurd (omega arith); rest = λ j h. same_at z 64 j }
 
-module _ {f : Ty → ℕ} {tb : List ℕ} {i : ℕ} {l : List ℕ} (M : Measuring f tb i l) where
-  -- what holds of 0 and of the numbers so far holds at every place
-  pub measuring_every : (P : ℕ → Type 0) → P 0 → ((j : ℕ) → j < i → P (f (ty_at tb j))) → (j : ℕ) → P (get_or l j 0)
-  measuring_every P z h j = go (dec_lt j i)
+module _ {A : Type 0} {z : A} {f : Ty → A} {tb : List ℕ} {i : ℕ} {l : List A} (M : Measuring z f tb i l) where
+  -- what holds of z and of what is found so far holds at every place
+  pub measuring_every : (P : A → Type 0) → P z → ((j : ℕ) → j < i → P (f (ty_at tb j))) → (j : ℕ) → P (get_or l j z)
+  measuring_every P p h j = go (dec_lt j i)
     where
-      go : Dec (j < i) → P (get_or l j 0)
+      go : Dec (j < i) → P (get_or l j z)
       go (yes q) = rw (M.done j q) (h j q)
-      go (no q) = rw (M.rest j (omega arith)) z
+      go (no q) = rw (M.rest j (omega arith)) p
 
+  pub measuring_more : count tb ≤ 64 → i < count tb → (v : A) → v ≡ f (ty_at tb i) → Measuring z f tb (i + 1) (set l i v)
+  measuring_more few r v e = record {
+    within = omega arith;
+    size = length-set l i v ∙ M.size;
+    done = below_more (λ j. get_or (set l i v) j z ≡ f (ty_at tb j)) i
+        (λ j q. get_or-set_other l i j v z (λ z. omega arith) ∙ M.done j q)
+        (get_or-set_same l i v z (omega (arith, M.size)) ∙ e);
+    rest = λ j h. get_or-set_other l i j v z (λ z. omega arith) ∙ M.rest j (omega arith);
+  }
+
+module _ {f : Ty → ℕ} {tb : List ℕ} {i : ℕ} {l : List ℕ} (M : Measuring 0 f tb i l) where
   module _ (few : count tb ≤ 64) where
-    pub measuring_more : i < count tb → (v : ℕ) → v ≡ f (ty_at tb i) → Measuring f tb (i + 1) (set l i v)
-    measuring_more r v e = record {
-      within = omega arith;
-      size = length-set l i v ∙ M.size;
-      done = below_more (λ j. get_or (set l i v) j 0 ≡ f (ty_at tb j)) i
-          (λ j q. get_or-set_other l i j v 0 (λ z. omega arith) ∙ M.done j q)
-          (get_or-set_same l i v 0 (omega (arith, M.size)) ∙ e);
-      rest = λ j h. get_or-set_other l i j v 0 (λ z. omega arith) ∙ M.rest j (omega arith);
-    }
-
     -- filled up to the count, it has the numbers of the table
     pub measuring_all : count tb ≤ i → l ≡ numbers_of f tb
     unfolding numbers_of
@@ -77,7 +77,7 @@ module _ {f : Ty → ℕ} {tb : List ℕ} {i : ℕ} {l : List ℕ} (M : Measurin
         go j (no q) =
             let e : j ≡ length front + (j - count tb) = omega (arith, numbers_length f tb (count tb) 0) in
             M.rest j (omega (arith, M.within))
-            ∙ sym (ap (λ k. get_or (front ++ zeros) k 0) e ∙ get_or-append-add front zeros (j - count tb) 0 ∙ zeros_at (64 - count tb) (j - count tb))
+            ∙ sym (ap (λ k. get_or (front ++ zeros) k 0) e ∙ get_or-append-add front zeros (j - count tb) 0 ∙ same_at 0 (64 - count tb) (j - count tb))
 
 -- ---- footprints
 
@@ -85,12 +85,12 @@ module _ {f : Ty → ℕ} {tb : List ℕ} {i : ℕ} {l : List ℕ} (M : Measurin
 pub record Weighing (tb : List ℕ) (i : ℕ) (l : List ℕ) : Type 0 where
   pub left : nodes_from tb (count tb) 0 ≡ nodes_from tb (count tb - i) i
   pub passed : (j : ℕ) → j < i → Passes tb j
-  pub feet : Measuring foot tb i l
+  pub feet : Measuring 0 foot tb i l
 
 pub weighing_none : (tb : List ℕ) → Weighing tb 0 (replicate 64 0)
-weighing_none tb = record { left = rw (sub-zero (count tb)); passed = λ j h. absurd (omega arith); feet = measuring_none foot tb }
+weighing_none tb = record { left = rw (sub-zero (count tb)); passed = λ j h. absurd (omega arith); feet = measuring_none 0 foot tb }
 
-pub refused_feet : (tb : List ℕ) (y : Refusal) → check_table tb ≡ Err y → footprints_of tb ≡ no_feet (Err y)
+pub refused_feet : (tb : List ℕ) (y : Refusal) → check_table tb ≡ Err y → footprints_of tb ≡ Err y
 unfolding footprints_of
 refused_feet tb y e = rw e
 
@@ -102,7 +102,7 @@ module _ (tb : List ℕ) (f : head_check tb ≡ fine) (i : ℕ) (l : List ℕ) (
   pub weighing_small : Under (2 ^ 31) l
   weighing_small = measuring_every W.feet (λ x. x < 2 ^ 31) (omega arith) (λ j q. omega (arith, (W.passed j q).footing))
 
-  pub weighing_all : count tb ≤ i → footprints_of tb ≡ record { check = fine; feet = l }
+  pub weighing_all : count tb ≤ i → footprints_of tb ≡ Ok l
   unfolding footprints_of nodes_from
   weighing_all g =
       let z : count tb - i ≡ 0 = omega arith in
@@ -114,7 +114,7 @@ module _ (tb : List ℕ) (f : head_check tb ≡ fine) (i : ℕ) (l : List ℕ) (
     next : count tb - i ≡ suc (count tb - (i + 1))
     next = omega arith
 
-    pub weighing_wrong : allowed i (node_at tb i) ≡ false → footprints_of tb ≡ no_feet (Err (wrong_node_at i))
+    pub weighing_wrong : allowed i (node_at tb i) ≡ false → footprints_of tb ≡ Err (wrong_node_at i)
     weighing_wrong e = refused_feet tb (wrong_node_at i) (check_nodes tb f ∙ W.left ∙ rw next (nodes_wrong tb (count tb - (i + 1)) i e))
 
     module _ (e : allowed i (node_at tb i) ≡ true) where
@@ -128,7 +128,7 @@ module _ (tb : List ℕ) (f : head_check tb ≡ fine) (i : ℕ) (l : List ℕ) (
 
       -- (with the footprint as the code has it)
       module _ (v : ℕ) (q : v ≡ foot (ty_at tb i)) where
-        pub weighing_large : max_footprint < v → footprints_of tb ≡ no_feet (Err (footprint_at i))
+        pub weighing_large : max_footprint < v → footprints_of tb ≡ Err (footprint_at i)
         weighing_large g = refused_feet tb (footprint_at i) (check_nodes tb f ∙ W.left ∙ rw next (nodes_large tb (count tb - (i + 1)) i e (rw q at g)))
 
         pub weighing_more : v ≤ max_footprint → Weighing tb (i + 1) (set l i v)

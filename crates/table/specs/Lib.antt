@@ -1,4 +1,3 @@
-pub mod Names
 pub mod Nodes
 pub mod Laws
 pub mod Filling

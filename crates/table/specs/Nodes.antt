@@ -1,8 +1,7 @@
 -- What the functions of this crate ask and answer, beside rules' definitions: how many items a node has, and its footprint from those of its children.
-use Rattle.std.specs.Prelude.{ℕ, ◌+◌, ◌*◌, ◌≤◌, replicate}
+use Rattle.std.specs.Prelude.{ℕ, ◌+◌, ◌*◌, ◌≤◌}
 use Rattle.rules.specs.Totals.{leaf_foot}
 use Rattle.node.specs.Names.{Node, leaf_node, option_node, result_node, pair_node, array_node, vector_node, bits_node, unknown}
-use Rattle.table.specs.Names.{Check, Footprints}
 
 -- an array has at least one item, and at most m
 abbrev pub Counted : ℕ → Node → Type 0
@@ -25,7 +24,3 @@ foot_over f (array_node n a) = n * f a
 foot_over f (vector_node a) = 24
 foot_over f bits_node = 24
 foot_over f unknown = 0
-
--- the answer for a table that is refused
-abbrev pub no_feet : Check → Footprints
-no_feet y = record { check = y; feet = replicate 64 0 }

@@ -1,16 +1,16 @@
 -- Laws of the table: the one that unfolds a node's type, and what a checked table is, exactly.
-use Rattle.std.specs.Prelude.{Bool, true, false, ◌&&◌, List, ◌++◌, ◌≡◌, ltb, leb, eqb, length, replicate, get_or, Err}
+use Rattle.std.specs.Prelude.{Bool, true, false, ◌&&◌, List, ◌++◌, ◌≡◌, ltb, leb, eqb, length, replicate, get_or, Ok, Err}
 use Rattle.std.proofs.Math.Path.{refl}
 use Rattle.std.proofs.Common.{ap, sym, ◌∙◌, ap₂, subst, add-zero, arith, ltb-true, ltb-false, lt-ltb, le-ltb, leb-true, le-leb, eqb-true, eq-eqb, length-append}
 use Prim.Native.Nat.{ℕ, zero, suc, ◌+◌, ◌-◌, ◌*◌, ◌≤◌, ◌<◌}
 use Rattle.std.proofs.lemmas.Bool.{lt-leb}
 use Rattle.std.proofs.lemmas.List.{length-replicate}
-use Rattle.rules.specs.Refusals.{Refusal, table_mark, table_size, wrong_node_at, footprint_at, max_footprint}
+use Rattle.rules.specs.Refusals.{Refusal, Answer, table_mark, table_size, wrong_node_at, footprint_at, max_footprint}
 use Rattle.rules.specs.Basics.{pick}
 use Rattle.rules.specs.Types.{Ty, result, pair, array, vector, option}
 use Rattle.rules.proofs.Laws.Bits.{both_true}
 use Rattle.rules.specs.Totals.{foot}
-use Rattle.rules.specs.Table.{Node, leaf_node, option_node, result_node, pair_node, array_node, vector_node, bits_node, unknown, Check, fine, count, node_at, build, ty_by, ty_at, marked, sized, allowed, nodes_from, head_check, check_table, numbers_from, numbers_of, after_check, unit_code, units_of}
+use Rattle.rules.specs.Table.{Node, leaf_node, option_node, result_node, pair_node, array_node, vector_node, bits_node, unknown, Check, fine, count, node_at, build, ty_by, ty_at, marked, sized, allowed, nodes_from, head_check, check_table, numbers_from, numbers_of, after_check, footprints_of, unit_code, units_of}
 use Rattle.rules.specs.Table.Laws.{Below, Good, Passes, Headed}
 
 -- what holds for all children
@@ -174,3 +174,20 @@ numbers_64 f tb h = omega (arith, length-append (numbers_from f tb (count tb) 0)
 pub units_64 : (tb : List ℕ) → Good tb → length (units_of tb) ≡ 64
 unfolding units_of
 units_64 tb g = ap (λ c. length (after_check c (λ y. replicate 64 0) (numbers_of unit_code tb))) (good_check tb g) ∙ numbers_64 unit_code tb g.few
+
+-- footprints that are found, and refused, say the check
+pub footprints_found : (tb l : List ℕ) → footprints_of tb ≡ Ok l → (check_table tb ≡ fine) × (l ≡ numbers_of foot tb)
+unfolding footprints_of
+footprints_found tb l e = go (check_table tb) e
+  where
+    go : (x : Check) → after_check x Err (Ok (numbers_of foot tb)) ≡ Ok l → (x ≡ fine) × (l ≡ numbers_of foot tb)
+    go fine f = let q : numbers_of foot tb ≡ l = cc in (refl, sym q)
+    go (Err y) f = absurd (let z : ◌≡◌ {A = ℕ} 0 1 = cc in omega arith)
+
+pub footprints_refused : (tb : List ℕ) (y : Refusal) → footprints_of tb ≡ Err y → check_table tb ≡ Err y
+unfolding footprints_of
+footprints_refused tb y e = go (check_table tb) e
+  where
+    go : (x : Check) → after_check {A = Answer (List ℕ)} x Err (Ok (numbers_of foot tb)) ≡ Err y → x ≡ Err y
+    go fine f = absurd (let z : ◌≡◌ {A = ℕ} 0 1 = cc in omega arith)
+    go (Err x) f = let q : x ≡ y = cc in ap Err q

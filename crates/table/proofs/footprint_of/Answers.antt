@@ -5,19 +5,19 @@ use Rattle.table.specs.Laws.{product_fits}
 use Rattle.table.proofs.footprint_of.Goals as goal
 
 pub overflow_add-result : goal.overflow_add-result
-overflow_add-result c = omega (arith, c.number_at.ensures, c.requires.0 c.in-Option.a)
+overflow_add-result c = omega (arith, c.found_at.ensures, c.requires.0 c.in-Option.a)
 
 pub overflow_add-result-in-Result : goal.overflow_add-result-in-Result
-overflow_add-result-in-Result c = omega (arith, c.number_at-in-Result.ensures, c.number_at-in-Result-2.ensures, c.requires.0 c.in-Result.a, c.requires.0 c.in-Result.b)
+overflow_add-result-in-Result c = omega (arith, c.found_at-in-Result.ensures, c.found_at-in-Result-2.ensures, c.requires.0 c.in-Result.a, c.requires.0 c.in-Result.b)
 
 pub overflow_add-result-in-Result-2 : goal.overflow_add-result-in-Result-2
-overflow_add-result-in-Result-2 c = omega (arith, c.number_at-in-Result.ensures, c.number_at-in-Result-2.ensures, c.requires.0 c.in-Result.a, c.requires.0 c.in-Result.b)
+overflow_add-result-in-Result-2 c = omega (arith, c.found_at-in-Result.ensures, c.found_at-in-Result-2.ensures, c.requires.0 c.in-Result.a, c.requires.0 c.in-Result.b)
 
 pub overflow_add-result-in-Pair : goal.overflow_add-result-in-Pair
-overflow_add-result-in-Pair c = omega (arith, c.number_at-in-Pair.ensures, c.number_at-in-Pair-2.ensures, c.requires.0 c.in-Pair.a, c.requires.0 c.in-Pair.b)
+overflow_add-result-in-Pair c = omega (arith, c.found_at-in-Pair.ensures, c.found_at-in-Pair-2.ensures, c.requires.0 c.in-Pair.a, c.requires.0 c.in-Pair.b)
 
 pub overflow_mul-result : goal.overflow_mul-result
-overflow_mul-result c = record { fits = product_fits (rw c.in-Array.is at c.requires.1).1 (omega (arith, c.number_at-in-Array.ensures, c.requires.0 c.in-Array.a)) }
+overflow_mul-result c = record { fits = product_fits (rw c.in-Array.is at c.requires.1).1 (omega (arith, c.found_at-in-Array.ensures, c.requires.0 c.in-Array.a)) }
 
 pub returns-in-Leaf : goal.returns-in-Leaf
 unfolding foot_over
@@ -25,19 +25,19 @@ returns-in-Leaf c = rw c.in-Leaf.is c.leaf_footprint.ensures
 
 pub returns-in-Option : goal.returns-in-Option
 unfolding foot_over
-returns-in-Option c = rw (c.in-Option.is, c.number_at.ensures)
+returns-in-Option c = rw (c.in-Option.is, c.found_at.ensures)
 
 pub returns-in-Result : goal.returns-in-Result
 unfolding foot_over
-returns-in-Result c = rw (c.in-Result.is, c.number_at-in-Result.ensures, c.number_at-in-Result-2.ensures)
+returns-in-Result c = rw (c.in-Result.is, c.found_at-in-Result.ensures, c.found_at-in-Result-2.ensures)
 
 pub returns-in-Pair : goal.returns-in-Pair
 unfolding foot_over
-returns-in-Pair c = rw (c.in-Pair.is, c.number_at-in-Pair.ensures, c.number_at-in-Pair-2.ensures)
+returns-in-Pair c = rw (c.in-Pair.is, c.found_at-in-Pair.ensures, c.found_at-in-Pair-2.ensures)
 
 pub returns-in-Array : goal.returns-in-Array
 unfolding foot_over
-returns-in-Array c = rw (c.in-Array.is, c.number_at-in-Array.ensures)
+returns-in-Array c = rw (c.in-Array.is, c.found_at-in-Array.ensures)
 
 pub returns-in-Vector : goal.returns-in-Vector
 unfolding foot_over

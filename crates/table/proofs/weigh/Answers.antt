@@ -8,7 +8,7 @@ use Rattle.rules.specs.Totals.{foot}
 use Rattle.rules.specs.Table.{node_at, ty_at, allowed}
 use Rattle.rules.proofs.Laws.Table.{head_fine}
 use Rattle.node.specs.Laws.{node_in_lem}
-use Rattle.table.specs.Nodes.{foot_over, no_feet}
+use Rattle.table.specs.Nodes.{foot_over}
 use Rattle.table.specs.Laws.{counted_in}
 use Rattle.table.specs.Filling.{weighing_none, weighing_small, weighing_all, weighing_wrong, weighed, weighing_large, weighing_more}
 use Rattle.table.proofs.weigh.Goals as goal
@@ -34,30 +34,27 @@ weight c node good =
 pub bounds-table-5 : goal.bounds-table-5
 bounds-table-5 c = omega (arith, (head_fine _ c.requires).exact)
 
-pub overflow_cast-n : goal.overflow_cast-n
-overflow_cast-n c = omega (arith, c.shared_slice_known-2-1.given 5)
-
 pub loop-i-init : goal.loop-i-init
 loop-i-init c = weighing_none _
 
 pub returns-then-not-allowed_at : goal.returns-then-not-allowed_at
 returns-then-not-allowed_at c =
     let said = (told (goal.at.returns-then-not-allowed_at c).After-allowed_at).1 in
-    c.no_feet.ensures ∙ ap no_feet c.refuse.ensures
+    c.refuse.ensures
     ∙ sym (weighing_wrong _ c.requires _ _ c.loop-i.invariant c.loop-i-test.true (sym said ∙ c.if-not-allowed_at.true))
 
 pub slice_bounds-footprint_of-end : goal.slice_bounds-footprint_of-end
 slice_bounds-footprint_of-end c = sym c.loop-i.invariant.feet.size
 
 pub footprint_of-foot-requires : goal.footprint_of-foot-requires
-footprint_of-foot-requires c = (weighing_small _ c.requires _ _ c.loop-i.invariant, rw c.node_at-node.ensures (counted_in c.args.table.now (λ k. (c.shared_slice_known-1.given k).fits) _))
+footprint_of-foot-requires c = (weighing_small _ c.requires _ _ c.loop-i.invariant, rw c.node_at-node.ensures (counted_in c.args.table.now (λ k. (c.type_inv.table k).fits) _))
 
 pub returns-then-foot-gt-MAX_FOOTPRINT : goal.returns-then-foot-gt-MAX_FOOTPRINT
 returns-then-foot-gt-MAX_FOOTPRINT c =
     let at = goal.at.returns-then-foot-gt-MAX_FOOTPRINT c in
     let said = told at.After-allowed_at in
     let good = sym said.1 ∙ c.if-not-allowed_at.false in
-    c.no_feet-then-foot-gt-MAX_FOOTPRINT.ensures ∙ ap no_feet c.refuse-then-foot-gt-MAX_FOOTPRINT.ensures
+    c.refuse-then-foot-gt-MAX_FOOTPRINT.ensures
     ∙ sym (weighing_large _ c.requires _ _ c.loop-i.invariant c.loop-i-test.true good _ (weight at.After-footprint_of-foot said.0 good) c.if-foot-gt-MAX_FOOTPRINT.true)
 
 pub offset_bounds-feet-i : goal.offset_bounds-feet-i
@@ -65,9 +62,6 @@ offset_bounds-feet-i c = omega (arith, room (goal.at.offset_bounds-feet-i c).In-
 
 pub bounds-feet-i : goal.bounds-feet-i
 bounds-feet-i c = room (goal.at.bounds-feet-i c).In-loop-i
-
-pub overflow_add-i : goal.overflow_add-i
-overflow_add-i c = omega (arith, room (goal.at.overflow_add-i c).In-loop-i)
 
 pub loop-i-preserved : goal.loop-i-preserved
 loop-i-preserved c =
