@@ -1,14 +1,15 @@
--- Laws of longest lengths: a node's from those of its children, and as numbers.
-use Rattle.std.specs.Prelude.{◌≡◌, refl, ℕ, ◌^◌, ◌≤◌, ◌<◌, Option, Some, None}
-use Rattle.std.proofs.Common.{arith, ne_eqb}
+-- Laws of longest lengths: a node's from those of its children, and how long they are.
+use Rattle.std.specs.Prelude.{◌≡◌, refl, ℕ, ◌≤◌, ◌<◌, Option, Some, None}
+use Rattle.std.proofs.Common.{arith}
 use Rattle.rules.specs.Refusals.{max_footprint}
 use Rattle.rules.specs.Types.{Ty}
 use Rattle.rules.specs.Totals.{foot, longest}
+use Rattle.rules.specs.Totals.Bound.{Twice}
 use Rattle.rules.proofs.Laws.Totals.Bound.{longest_twice}
 use Rattle.rules.specs.Table.{build}
 use Rattle.rules.specs.Table.Laws.{Below}
 use Rattle.node.specs.Names.{Node, leaf_node, option_node, result_node, pair_node, array_node, vector_node, bits_node, unknown}
-use Rattle.totals.specs.Nodes.{longest_over, no_length, coded, decoded, Short}
+use Rattle.totals.specs.Nodes.{longest_over, Short}
 
 pub longest_over_lem : (f : ℕ → Option ℕ) (g : ℕ → Ty) (i : ℕ) (n : Node) → Below i n → ((j : ℕ) → j < i → f j ≡ longest (g j)) → longest_over f n ≡ longest (build g n)
 unfolding longest_over longest
@@ -21,23 +22,12 @@ longest_over_lem f g i (vector_node a) b h = refl
 longest_over_lem f g i bits_node b h = refl
 longest_over_lem f g i unknown b h = absurd b
 
--- ---- longest lengths as numbers
+-- ---- how long they are
 
--- by its footprint, a longest length is short, and can be read back from the number that stands for it
-module _ (t : Ty) (small : foot t ≤ max_footprint) where
-  below : (m : ℕ) → longest t ≡ Some m → m < 2 ^ 32
-  below m e = let h = rw e at (longest_twice t) in omega arith
-
-  pub coded_short : Short (coded (longest t))
-  coded_short = go (longest t) below
-    where
-      go : (o : Option ℕ) → ((m : ℕ) → o ≡ Some m → m < 2 ^ 32) → Short (coded o)
-      go None h z = absurd (z refl)
-      go (Some m) h z = h m refl
-
-  pub decoded_coded : decoded (coded (longest t)) ≡ longest t
-  decoded_coded = go (longest t) below
-    where
-      go : (o : Option ℕ) → ((m : ℕ) → o ≡ Some m → m < 2 ^ 32) → decoded (coded o) ≡ o
-      go None h = refl
-      go (Some m) h = rw (ne_eqb m no_length (λ e. omega (arith, h m refl)))
+-- by its footprint, a longest length is short
+pub longest_short : (t : Ty) → foot t ≤ max_footprint → Short (longest t)
+longest_short t small = go (longest t) (longest_twice t)
+  where
+    go : (o : Option ℕ) → Twice o (foot t) → Short o
+    go None h = tt
+    go (Some m) h = omega arith

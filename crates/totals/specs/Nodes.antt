@@ -1,6 +1,5 @@
 -- What the functions of this crate answer, beside rules' definitions: what is found of a node from its children's numbers.
-use Rattle.std.specs.Prelude.{List, ◌≡◌, ℕ, ◌+◌, ◌-◌, ◌*◌, ◌<◌, ◌^◌, min, max, eqb, get_or, Option, Some, None}
-use Rattle.rules.specs.Basics.{pick}
+use Rattle.std.specs.Prelude.{List, ℕ, ◌+◌, ◌-◌, ◌*◌, ◌<◌, ◌^◌, min, max, get_or, Option, Some, None, IfSome}
 use Rattle.rules.specs.Totals.{leaf_longest, join}
 use Rattle.node.specs.Names.{Node, leaf_node, option_node, result_node, pair_node, array_node, vector_node, bits_node, unknown}
 
@@ -21,23 +20,12 @@ longest_over f (vector_node a) = None
 longest_over f bits_node = None
 longest_over f unknown = Some 0
 
--- the number that stands for "none" among longest lengths
-abbrev pub no_length : ℕ
-no_length = 0xffff_ffff_ffff_ffff
-
-abbrev pub coded : Option ℕ → ℕ
-coded None = no_length
-coded (Some n) = n
-
-abbrev pub decoded : ℕ → Option ℕ
-decoded x = pick (eqb x no_length) None (Some x)
-
 -- a longest length that is far from wrapping, or none
-abbrev pub Short : ℕ → Type 0
-Short x = (x ≡ no_length → ⊥) → x < 2 ^ 32
+abbrev pub Short : Option ℕ → Type 0
+Short o = IfSome o (λ n. n < 2 ^ 32)
 
-abbrev pub AllShort : List ℕ → Type 0
-AllShort l = (i : ℕ) → Short (get_or l i 0)
+abbrev pub AllShort : List (Option ℕ) → Type 0
+AllShort l = (i : ℕ) → Short (get_or l i None)
 
 -- ---- units
 

@@ -10,7 +10,7 @@ use Rattle.std.proofs.Math.Dec.{eqb}
 use Rattle.rules.specs.Basics.{pick}
 use Rattle.rules.specs.Types.{Ty}
 use Rattle.rules.specs.Totals.{foot, unit_cells}
-use Rattle.rules.specs.Table.{count, b_at, node_at, build, ty_at, footprints_of, unit_code, units_of}
+use Rattle.rules.specs.Table.{count, b_at, node_at, build, ty_at, numbers_of, unit_code, units_of}
 use Rattle.rules.specs.Table.Laws.{Below, Good}
 use Rattle.rules.proofs.Laws.Table.{type_node, good_check, numbers_at}
 use Rattle.node.specs.Names.{Node, leaf_node, option_node, result_node, pair_node, array_node, vector_node, bits_node, unknown}
@@ -41,14 +41,6 @@ kept_array n x h = go (dec_le x most)
     go : Dec (x ≤ most) → kept (n * kept x + (n - 1)) ≡ kept (n * x + (n - 1))
     go (yes p) = rw (min-eq_left p)
     go (no p) = rw (kept_most x (omega arith), kept_most (n * most + (n - 1)) (omega (arith, at_least n most h)), kept_most (n * x + (n - 1)) (omega (arith, at_least n x h)))
-
--- whether they fit is seen by a division
-module _ (n x : ℕ) (h : 1 ≤ n) where
-  pub array_most : (most - (n - 1)) / n < x → kept (n * x + (n - 1)) ≡ most
-  array_most d = kept_most (n * x + (n - 1)) (omega (arith, (div-lt_iff_lt-mul h).0 d))
-
-  pub array_fits : n ≤ 2 ^ 64 → x ≤ (most - (n - 1)) / n → n * x + (n - 1) ≤ most
-  array_fits b d = omega (arith, (le-div_iff_mul-le h).0 d)
 
 -- without the first of all
 past_first : (n x : ℕ) → 1 ≤ n → 1 ≤ x → n * (x - 1) + (n - 1) ≡ n * x - 1
@@ -110,9 +102,8 @@ module _ (tb : List ℕ) (G : Good tb) where
     units_at_lem z = rw (good_check tb G) (numbers_at unit_code tb i r ∙ code_units (ty_at tb i) z)
 
     -- and which nodes these are is seen at their places among the footprints
-    pub feet_at : get_or (footprints_of tb).feet i 0 ≡ foot (ty_at tb i)
-    unfolding footprints_of
-    feet_at = rw (good_check tb G) (numbers_at foot tb i r)
+    pub feet_at : get_or (numbers_of foot tb) i 0 ≡ foot (ty_at tb i)
+    feet_at = numbers_at foot tb i r
 
     -- what is found of a node from its footprint and its children's numbers
     module _ (f : ℕ → ℕ) (h : (j : ℕ) → j < i → f j ≡ unit_code (ty_at tb j)) where

@@ -1,15 +1,14 @@
 -- `longest` meets its contract: the check's answer, or that of the root. Assumes nothing.
-use mathlib.Core.Path.{sym, ◌∙◌}
+use Rattle.std.proofs.Common.{sym, ap, ◌∙◌}
+use Rattle.std.specs.Prelude.{Ok}
 use Rattle.rules.specs.Table.{longest_of}
+use Rattle.rules.proofs.Laws.Basics.{handed_on}
 use Rattle.totals.proofs.longest.Goals as goal
 
-pub measure-requires : goal.measure-requires
-measure-requires c = sym c.check.ensures ∙ c.in-Fine.is
-
-pub returns-in-Fine : goal.returns-in-Fine
+pub returns-in_err-check : goal.returns-in_err-check
 unfolding longest_of
-returns-in-Fine c = rw (sym c.check.ensures ∙ c.in-Fine.is) c.measure.ensures
+returns-in_err-check c = rw (sym c.check.ensures ∙ c.in_err-check.was) (handed_on _ _ c.from_residual.ensures.1)
 
-pub returns-in-Refused : goal.returns-in-Refused
+pub returns : goal.returns
 unfolding longest_of
-returns-in-Refused c = rw (sym c.check.ensures ∙ c.in-Refused.is)
+returns c = rw (sym c.check.ensures ∙ c.in_ok-check.was) (ap Ok c.measure.ensures)

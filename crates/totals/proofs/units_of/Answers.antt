@@ -35,11 +35,11 @@ array_units-requires c = omega (arith, rw c.in-Array.is at c.requires)
 
 pub returns-in-Pair : goal.returns-in-Pair
 unfolding units_over
-returns-in-Pair c = rw (eq-eqb _ 0 c.if-foot-ne0.false, c.in-Pair.is, ← c.number_at.ensures, ← c.number_at-in-Pair.ensures) c.pair_units.ensures
+returns-in-Pair c = rw (eq-eqb _ 0 c.if-foot-ne0.false, c.in-Pair.is, ← c.found_at.ensures, ← c.found_at-in-Pair.ensures) c.pair_units.ensures
 
 pub returns-in-Array : goal.returns-in-Array
 unfolding units_over
-returns-in-Array c = rw (eq-eqb _ 0 c.if-foot-ne0.false, c.in-Array.is, ← c.number_at-in-Array.ensures) c.array_units.ensures
+returns-in-Array c = rw (eq-eqb _ 0 c.if-foot-ne0.false, c.in-Array.is, ← c.found_at-in-Array.ensures) c.array_units.ensures
 
 pub returns-in_default : goal.returns-in_default
 returns-in_default c = rw (eq-eqb _ 0 c.if-foot-ne0.false) (sym (other _ _ (opened c.in_default.in_default-own.keys3)))
