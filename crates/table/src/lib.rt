@@ -35,6 +35,7 @@ fn is_sized(table: &[u8]) -> bool
 }
 
 // Checks what stands before the nodes, and the length.
+#[tactic(auto, unfolding(rules::specs::Table::head_check))]
 fn check_head(table: &[u8]) -> Answer<()>
     ensures { result ≡ head_check table.now }
 {
@@ -51,6 +52,7 @@ fn check_head(table: &[u8]) -> Answer<()>
 }
 
 // Is the node of a known kind, with its children below `i`?
+#[tactic(auto, unfolding(rules::specs::Table::allowed))]
 fn allowed_at(i: usize, node: Node) -> bool
     ensures { result ≡ allowed i node }
 {
@@ -79,6 +81,7 @@ pub fn found_at<T: Copy>(found: &[T], i: usize, past: T) -> T
 }
 
 // The footprint of a leaf.
+#[tactic(auto)]
 fn leaf_footprint(leaf: Leaf) -> u64
     ensures { result ≡ leaf_foot leaf }
 {
@@ -93,6 +96,7 @@ fn leaf_footprint(leaf: Leaf) -> u64
 }
 
 // The footprint of a node, from those of its children, which stand in `feet`.
+#[tactic(auto, using(crate::specs::Laws::product_fits), unfolding(crate::specs::Nodes::foot_over))]
 fn footprint_of(node: Node, feet: &[u64]) -> u64
     requires { Under (2 ^ 31) feet.now × Counted 65535 node }
     ensures { result ≡ foot_over (λ j. get_or feet.now j 0) node }
