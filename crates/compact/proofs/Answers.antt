@@ -1,7 +1,8 @@
 -- What the code's tests say of `settled`, one law for each way to an answer.
 use mathlib.Core.Bool.{Bool, true, false}
 use mathlib.Core.Path.{◌≡◌, refl, ap, sym, ◌∙◌}
-use Prim.Native.Nat.{ℕ, ◌^◌, max, ◌≤◌, ◌<◌}
+use Prim.Native.Nat.{ℕ, ◌^◌, max, min, ◌≤◌, ◌<◌}
+use Rattle.std.specs.Prelude.{List, take}
 use native.Mathlib.Omega.{arith}
 use borrow.Author.Tests.{leb-true, leb-false, le-leb, lt-leb, le-ltb}
 use lib.Dec.{leb}
@@ -11,7 +12,8 @@ use Rattle.rules.proofs.Laws.Compact.Answers.{lt_fits, settled_yes, settled_low}
 use Rattle.std.specs.Prelude.{Ok, Err}
 use Rattle.compact.specs.declared.Fault.TheVariants.{Range}
 use Rattle.rules.specs.declared.Halves.{Halves}
-use Rattle.compact.specs.Halves.{whole, in_halves}
+use Rattle.rules.specs.Bytes.{le_value, whole, halves}
+use Rattle.compact.specs.Halves.{in_halves}
 use Rattle.compact.specs.Laws.{in_halves_lem}
 use Rattle.compact.specs.Sizes.{whole_low, under, over}
 
@@ -41,6 +43,13 @@ accept w least low high n le lt h h' =
 -- a value of the low half alone
 pub low_half : (x v : ℕ) (h : Halves) → h ≡ record { low = x; high = 0 } → x ≡ v → whole h.low h.high ≡ v
 low_half x v h q e = rw q (sym (whole_low x 0 refl) ∙ e)
+
+-- at most sixteen bytes in two halves
+pub halves_whole : (n : ℕ) (s : List ℕ) (h : Halves) → n ≤ 16 → h ≡ halves (le_value (take (min n 16) s)) → whole h.low h.high ≡ le_value (take n s)
+halves_whole n s h le q =
+    let m : min n 16 ≡ n = omega arith in
+    let back : (v : ℕ) → whole (halves v).low (halves v).high ≡ v = λ v. omega arith in
+    rw q (back (le_value (take (min n 16) s)) ∙ ap (λ k. le_value (take k s)) m)
 
 pub one_half : (w least x v n : ℕ) (h : Halves) → h ≡ record { low = x; high = 0 } → x ≡ v → in_halves (settled w least (whole h.low h.high) n) ≡ in_halves (settled w least v n)
 one_half w least x v n h q e = ap (λ (y : ℕ). in_halves (settled w least y n)) (low_half x v h q e)

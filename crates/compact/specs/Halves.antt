@@ -1,5 +1,6 @@
 -- From the rule's numbers to the code's answers and back: a 128-bit value is two 64-bit halves.
-use Rattle.std.specs.Prelude.{ℕ, ◌+◌, ◌*◌, ◌/◌, ◌%◌, ◌^◌, Result, Ok, Err}
+use Rattle.std.specs.Prelude.{ℕ, Result, Ok, Err}
+use Rattle.rules.specs.Bytes.{whole, halves}
 use Rattle.rules.specs.Refusals.{number_of}
 use Rattle.rules.specs.Compact.{Answer, value, short, prefix, range}
 use Rattle.rules.specs.declared.Halves.{Halves}
@@ -11,13 +12,9 @@ use Rattle.compact.specs.declared.Fault.TheVariants.{Short, Prefix, Range}
 abbrev pub Reading : Type 0
 Reading = Result (Halves × ℕ) Fault
 
--- the value of two halves
-abbrev pub whole : ℕ → ℕ → ℕ
-whole low high = low + high * 2 ^ 64
-
 -- an answer of the rule as the code gives it
 abbrev pub in_halves : Answer → Reading
-in_halves (value v n) = Ok (record { low = v % 2 ^ 64; high = v / 2 ^ 64 }, n)
+in_halves (value v n) = Ok (halves v, n)
 in_halves short = Err Short
 in_halves prefix = Err Prefix
 in_halves range = Err Range

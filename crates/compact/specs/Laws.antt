@@ -10,7 +10,8 @@ use Rattle.rules.specs.Compact.{Answer, value, short, prefix, range, compact_fro
 use Rattle.rules.proofs.Laws.Compact.Answers.{fits_lt}
 use Rattle.rules.specs.Compact.Law.{Opens}
 use Rattle.rules.proofs.Laws.Compact.Law.{compact_took, compact_exactly}
-use Rattle.compact.specs.Halves.{Reading, whole, in_halves, said, fields, refused}
+use Rattle.rules.specs.Bytes.{whole}
+use Rattle.compact.specs.Halves.{Reading, in_halves, said, fields, refused}
 
 -- ---- halves
 

@@ -7,7 +7,7 @@ use Rattle.std.proofs.lemmas.Nat.{leading_top}
 use Rattle.rules.specs.Compact.{significant_in, significant}
 use Rattle.rules.specs.Compact.Sizes.{Has}
 use Rattle.rules.proofs.Laws.Compact.Sizes.{significant_is, significant_ge, significant_lt}
-use Rattle.compact.specs.Halves.{whole}
+use Rattle.rules.specs.Bytes.{whole}
 use Rattle.compact.specs.Laws.{whole_lt}
 
 -- a value of the low half alone

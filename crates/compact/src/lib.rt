@@ -4,10 +4,10 @@
 
 ghost use Rattle.std.specs.Prelude.{◌≡◌, ◌∷◌, ◌+◌, ◌-◌, ◌*◌, ◌/◌, ◌%◌, ◌^◌, max, ◌≤◌, length, take};
 ghost use Rattle.rules.specs.Types.{size};
-ghost use Rattle.rules.specs.Bytes.{le_value};
+ghost use Rattle.rules.specs.Bytes.{le_value, whole};
 ghost use Rattle.rules.specs.Compact.{significant, settled, form0, form1, form2, form3, compact_from};
 ghost use Rattle.compact.specs.Faults.{reason_of};
-ghost use Rattle.compact.specs.Halves.{whole, in_halves};
+ghost use Rattle.compact.specs.Halves.{in_halves};
 
 use rules::{Halves, Reason, Width};
 
@@ -149,12 +149,7 @@ fn many(n: u8, s: &[u8], width: Width) -> Reading
     if s.len() < count {
         return Err(Fault::Short);
     }
-    if count <= 8 {
-        return settle_long(Halves::from(number::word(s, count)), n, width);
-    }
-    let low = number::word(s, 8);
-    let high = number::word(&s[8..], count - 8);
-    settle_long(Halves { low, high }, n, width)
+    settle_long(number::halves(s, count), n, width)
 }
 
 // What a first byte b says with s after it.

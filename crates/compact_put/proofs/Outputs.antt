@@ -8,7 +8,7 @@ use lib.Bits.{bit_or, or_shifted}
 use lib.Dec.{lit<}
 use lib.ListN.{length, drop, set, replicate, length-append, length-replicate, replicate-append-replicate}
 use lib.Seq.{sets, drop_at}
-use Rattle.rules.specs.Bytes.{le_bytes}
+use Rattle.rules.specs.Bytes.{le_bytes, whole}
 use Rattle.rules.specs.Compact.{significant, long, compact_bytes}
 use Rattle.rules.proofs.Laws.Compact.Sizes.{significant_4}
 use Rattle.rules.proofs.Laws.Compact.Encoding.{encode_0, encode_1, encode_2, length_long}
@@ -16,7 +16,6 @@ use Rattle.rules.proofs.Laws.Places.{sets_onto}
 use Rattle.number.specs.Laws.{bytes_split}
 use Rattle.compact_put.specs.declared.Encoded.{Encoded}
 use Rattle.compact_put.specs.declared.Form.TheVariants.{One, Two, Four}
-use Rattle.compact.specs.Halves.{whole}
 use Rattle.compact.specs.Sizes.{significant_16, under}
 use Rattle.compact_put.specs.Padded.{padded, OfForm}
 

@@ -9,7 +9,8 @@ use Rattle.rules.specs.Compact.{compact_bytes, compact_from}
 use Rattle.rules.proofs.Laws.Compact.Answers.{lt_fits}
 use Rattle.rules.proofs.Laws.Compact.Law.{compact_reads}
 use Rattle.rules.proofs.Laws.Compact.Bound.{compact_longest}
-use Rattle.compact.specs.Halves.{whole, in_halves}
+use Rattle.rules.specs.Bytes.{whole}
+use Rattle.compact.specs.Halves.{in_halves}
 use Rattle.compact.specs.Laws.{in_halves_lem, size_le}
 use Rattle.compact_put.specs.declared.Encoded.{Encoded}
 use Rattle.compact_put.specs.Padded.{padded, front}

@@ -4,9 +4,8 @@
 ghost use Rattle.std.specs.Prelude.{◌≡◌, ◌^◌, ◌≤◌, length, take};
 ghost use Rattle.std.proofs.lemmas.List.Edits.{sets};
 ghost use Rattle.rules.specs.Totals.{longest_compact};
-ghost use Rattle.rules.specs.Bytes.{le_bytes};
+ghost use Rattle.rules.specs.Bytes.{le_bytes, whole};
 ghost use Rattle.rules.specs.Compact.{significant, long, compact_bytes};
-ghost use Rattle.compact.specs.Halves.{whole};
 ghost use Rattle.compact_put.specs.Padded.{padded, OfForm};
 
 use rules::{Halves, Width};
@@ -86,8 +85,7 @@ fn counted(value: Halves) -> Encoded
     let n = compact::significant(value);
     let mut out = [0u8; 17];
     out[0] = ((n - 4) << 2) | 3;
-    number::put(&mut out, 1, value.low, 8);
-    number::put(&mut out, 9, value.high, 8);
+    number::put_halves(&mut out, 1, value, 16);
     Encoded {
         bytes: out,
         len: n as usize + 1,

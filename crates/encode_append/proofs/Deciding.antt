@@ -12,7 +12,8 @@ use lib.ListN.{length, drop, take, length-append, length-drop}
 use lib.Seq.{length-take-le}
 use types.Run.{OneOf, miss}
 use Rattle.compact.specs.contracts.Reading.{the_type as reading-type}
-use Rattle.compact.specs.Halves.{whole, in_halves}
+use Rattle.rules.specs.Bytes.{whole}
+use Rattle.compact.specs.Halves.{in_halves}
 use Rattle.compact.specs.Laws.{said_back, read_took, low_only}
 use Rattle.compact.specs.declared.Reading.{Reading}
 use Rattle.compact.specs.declared.Reading.TheVariants.{Value}

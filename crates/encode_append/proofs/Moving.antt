@@ -5,7 +5,7 @@ use Prim.Native.Nat.{ℕ, suc, ◌+◌, ◌-◌, ◌≤◌, ◌<◌}
 use native.Mathlib.Omega.{arith}
 use lib.ListN.{length, drop, take, length-drop, length-append, drop_of_length-le, get_or, set}
 use lib.Seq.{take_at, length-take-le, drop_at, get_or-drop, sets, sets-eq, drop-drop, take-suc, take-set-le, drop-set-add}
-use Rattle.compact.specs.Halves.{whole}
+use Rattle.rules.specs.Bytes.{whole}
 use Rattle.rules.specs.Basics.{onto}
 use Rattle.rules.specs.Compact.{compact_bytes}
 use Rattle.rules.proofs.Laws.Places.{sets_length, sets_join, sets_set, sets_onto, part_rest, drop_take}

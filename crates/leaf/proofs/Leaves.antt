@@ -8,13 +8,13 @@ use native.Mathlib.Omega.{arith}
 use borrow.Author.Tests.{lt-ltb, le-ltb}
 use lib.Dec.{lit≤}
 use lib.ListN.{length, drop, take, get_or}
-use Rattle.compact.specs.Halves.{whole, in_halves, said}
+use Rattle.rules.specs.Bytes.{whole, le_value}
+use Rattle.compact.specs.Halves.{in_halves, said}
 use Rattle.compact.specs.Laws.{said_back, read_took, low_only}
 use Rattle.compact.specs.declared.Reading.{Reading}
 use Rattle.compact.specs.declared.Reading.TheVariants.{Value}
 use Rattle.number.specs.Laws.{one_word, two_words}
 use Rattle.rules.specs.Basics.{pick}
-use Rattle.rules.specs.Bytes.{le_value}
 use Rattle.rules.specs.Cells.{two, wide}
 use Rattle.rules.specs.Compact.{Answer, value, compact_from}
 use Rattle.rules.specs.Parser.{Res, got, bad}

@@ -10,7 +10,7 @@ use lib.Dec.{ltb, leb}
 use lib.ListN.{length, take, length-append, length-take}
 use lib.Seq.{sets}
 use Rattle.bit_vec.specs.Moves.{bytes_written, clear_cells}
-use Rattle.compact.specs.Halves.{whole}
+use Rattle.rules.specs.Bytes.{whole}
 use Rattle.rules.specs.Basics.{pick}
 use Rattle.rules.specs.Bits.{words8, words64, pack, lanes, clear}
 use Rattle.rules.proofs.Laws.Bits.{length_pack, length_lanes}

@@ -7,11 +7,10 @@ use borrow.Author.Tests.{lt-ltb, le-ltb}
 use lib.Dec.{lit≤}
 use lib.ListN.{length, get_or}
 use lib.Seq.{sets}
-use Rattle.compact.specs.Halves.{whole}
+use Rattle.rules.specs.Bytes.{whole, le_bytes}
 use Rattle.compact.specs.Laws.{low_only}
 use Rattle.number.specs.Laws.{two_puts}
 use Rattle.rules.specs.Basics.{pick, Under}
-use Rattle.rules.specs.Bytes.{le_bytes}
 use Rattle.rules.proofs.Laws.Bytes.{length_bytes}
 use Rattle.rules.specs.Cells.{two, wide, one, halves, leaf_taken}
 use Rattle.rules.specs.Form.{parse}

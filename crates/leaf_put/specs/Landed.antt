@@ -1,7 +1,7 @@
 -- What putting a leaf or bits leaves, and the cells that were taken for a leaf.
 use Rattle.std.specs.Prelude.{List, ◌≡◌, ℕ}
 use Rattle.std.proofs.lemmas.List.Edits.{sets}
-use Rattle.compact.specs.Halves.{whole}
+use Rattle.rules.specs.Bytes.{whole}
 use Rattle.rules.specs.Parser.{Res, got, bad}
 use Rattle.leaf_put.specs.declared.Taken.{Taken}
 use Rattle.leaf_put.specs.declared.Taken.TheVariants.{One as one_cell, Two as two_cells, Refused as no_cells}

@@ -11,7 +11,7 @@ ghost use Rattle.rules.specs.Refusals.{because, max_bits};
 ghost use Rattle.rules.specs.Scan.{sat};
 ghost use Rattle.rules.specs.Types.{bits, bound};
 ghost use Rattle.rules.specs.Wire.{leaf_bytes, bits_bytes};
-ghost use Rattle.compact.specs.Halves.{whole};
+ghost use Rattle.rules.specs.Bytes.{whole};
 ghost use Rattle.leaf_put.specs.Landed.{Took, landed_of};
 
 use rules::{Leaf, Put, Refusal, Width};

@@ -2,9 +2,13 @@
 // Both take any count: what is not there is not read, and what falls past the end is not written.
 #![tactic(auto)]
 
+mod wide;
+
 ghost use Rattle.std.specs.Prelude.{◌≡◌, min, take};
 ghost use Rattle.std.proofs.lemmas.List.Edits.{sets};
 ghost use Rattle.rules.specs.Bytes.{le_value, le_bytes};
+
+pub use wide::{halves, put_halves};
 
 fn smaller(x: usize, y: usize) -> usize
     ensures { result ≡ min x y }

@@ -3,10 +3,9 @@ use Rattle.std.proofs.Common.{◌≡◌, ◌≤◌, ◌<◌, ap, ◌∙◌, arit
 use Rattle.rules.specs.Types.{size}
 use Rattle.rules.specs.Compact.{form3}
 use Rattle.rules.proofs.Laws.Compact.Answers.{form3_there}
-use Rattle.number.specs.Laws.{one_word, two_words}
 use Rattle.compact.specs.Halves.{in_halves}
 use Rattle.compact.specs.Laws.{size_le}
-use Rattle.compact.proofs.Answers.{low_half}
+use Rattle.compact.proofs.Answers.{halves_whole}
 use Rattle.compact.proofs.many.Goals as goal
 use Rattle.compact.proofs.many.Goals.{Then-size-n, Else-size-n}
 
@@ -30,16 +29,9 @@ pub returns-then-s-count : goal.returns-then-s-count
 unfolding form3
 returns-then-s-count c = simp (le-ltb _ _ (wide (goal.at.returns-then-s-count c).Else-size-n), lt-ltb _ _ c.if-s-count.true)
 
-pub returns-then-count-le8 : goal.returns-then-count-le8
-returns-then-count-le8 c =
-    let a = c.args in
-    let v = one_word a.n _ _ c.word.ensures (omega arith) in
-    c.settle_long.ensures
-    ∙ ap in_halves (form3_there _ _ _ _ (wide (goal.at.returns-then-count-le8 c).Else-size-n) c.if-s-count.false (low_half _ _ _ c.from.ensures v))
-
 pub returns : goal.returns
 returns c =
     let a = c.args in
     let there = wide (goal.at.returns c).Else-size-n in
-    let v = two_words a.n _ _ a.s.now (omega arith) (omega (arith, there, size_le a.width)) c.word-low.ensures c.word-high.ensures in
-    rw (← form3_there _ a.n _ a.s.now there c.if-s-count.false v) c.settle_long-2.ensures
+    c.settle_long.ensures
+    ∙ ap in_halves (form3_there (size a.width) a.n _ a.s.now there c.if-s-count.false (halves_whole a.n a.s.now _ (omega (arith, there, size_le a.width)) c.halves.ensures))

@@ -1,8 +1,7 @@
 -- `compact_put::counted` meets its contract: the first byte and both halves, one after the other, are the long form padded. Assumes nothing.
-use native.Mathlib.Omega.{arith}
+use Rattle.std.proofs.Common.{arith}
 use Rattle.rules.proofs.Laws.Compact.Sizes.{significant_4}
-use Rattle.number.specs.Laws.{two_puts}
-use Rattle.compact.specs.Halves.{whole}
+use Rattle.rules.specs.Bytes.{whole}
 use Rattle.compact_put.proofs.Outputs.{counted_is}
 use Rattle.compact_put.proofs.counted.Goals as goal
 
@@ -11,5 +10,4 @@ overflow_sub-out c = omega (arith, significant_4 (whole c.args.value.low c.args.
 
 pub returns : goal.returns
 returns c =
-    counted_is _ _ _ _ c.significant-n.ensures c.requires (omega arith) (omega arith)
-    (two_puts 1 8 _ _ _ _ _ (omega arith) c.put.ensures c.put-2.ensures)
+    counted_is _ _ _ _ c.significant-n.ensures c.requires (omega arith) (omega arith) c.put_halves.ensures
