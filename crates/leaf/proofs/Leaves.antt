@@ -1,161 +1,89 @@
 -- Leaves, by the tests that the code makes: one law for each return.
-use Rattle.std.specs.Prelude.{Ok, Err}
-use mathlib.Core.Bool.{Bool, true, false}
-use mathlib.Core.List.{List, [], ◌∷◌}
-use mathlib.Core.Path.{◌≡◌, refl, ap, sym, ◌∙◌, ap₂}
-use Prim.Native.Nat.{ℕ, ◌+◌, ◌-◌, ◌*◌, ◌/◌, ◌%◌, ◌^◌, ◌≤◌, ◌<◌, min}
-use native.Mathlib.Omega.{arith}
-use borrow.Author.Tests.{lt-ltb, le-ltb}
-use lib.Dec.{lit≤}
-use lib.ListN.{length, drop, take, get_or}
-use Rattle.rules.specs.Bytes.{whole, le_value}
-use Rattle.compact.specs.Halves.{in_halves, said}
-use Rattle.compact.specs.Laws.{said_back, read_took, low_only}
-use Rattle.compact.specs.declared.Reading.{Reading}
-use Rattle.compact.specs.declared.Reading.TheVariants.{Value}
-use Rattle.number.specs.Laws.{one_word, two_words}
-use Rattle.rules.specs.Basics.{pick}
-use Rattle.rules.specs.Cells.{two, wide}
-use Rattle.rules.specs.Compact.{Answer, value, compact_from}
+use Rattle.std.specs.Prelude.{List, [], ◌∷◌, ◌≡◌, refl, ℕ, ◌/◌, ◌%◌, ◌^◌, ◌≤◌, ◌<◌, min, length, take, get_or, Ok, Err}
+use Rattle.std.proofs.Common.{ap, ap₂, sym, ◌∙◌, arith, lt-ltb, le-ltb}
+use Rattle.compact.specs.Faults.{reason_of}
+use Rattle.compact.specs.Halves.{in_halves}
+use Rattle.compact.specs.declared.Fault.{Fault}
+use Rattle.compact.specs.declared.Fault.TheVariants.{Short, Prefix, Range}
+use Rattle.rules.specs.Basics.{pick, Under}
+use Rattle.rules.proofs.Laws.Basics.{same_parts}
+use Rattle.rules.specs.Bytes.{le_value, whole, halves}
+use Rattle.rules.specs.Compact.{Answer as Said, value, short, prefix, range}
 use Rattle.rules.specs.Parser.{Res, got, bad}
-use Rattle.rules.specs.Refusals.{short_at, tag_at}
-use Rattle.rules.specs.Types.{size}
+use Rattle.rules.specs.Refusals.{Answer, because, short_at, tag_at}
 use Rattle.rules.specs.Wire.{byte_from, number_from, placed, leaf_from}
-use Rattle.rules.proofs.Laws.Wire.{whole_there, whole_short}
-use Rattle.rules.specs.declared.Leaf.{Leaf}
-use Rattle.rules.specs.declared.Leaf.TheVariants.{Fixed as fixed, Compact as compact}
+use Rattle.rules.proofs.Laws.Wire.{whole_there, whole_short, leaf_bound}
+use Rattle.rules.specs.declared.Halves.{Halves}
+use Rattle.rules.specs.declared.Leaf.TheVariants.{Compact as compact}
 use Rattle.rules.specs.declared.Refusal.{Refusal}
-use Rattle.rules.specs.declared.Width.{Width}
-use Rattle.rules.specs.declared.Width.TheVariants.{W1 as w1, W2 as w2, W4 as w4, W8 as w8, W16 as w16}
-use Rattle.leaf.specs.Taken.{in_one, in_two, taken_of, count_of}
-use Rattle.leaf.specs.declared.Count.TheVariants.{Of as counts, Refused as no_count}
-use Rattle.leaf.specs.declared.Taken.{Taken}
-use Rattle.leaf.specs.declared.Taken.TheVariants.{One as one_cell, Two as two_cells, Refused as no_leaf}
+use Rattle.rules.specs.declared.Width.TheVariants.{W4 as w4}
+use Rattle.leaf.specs.Laws.{leaf_got}
+use Rattle.leaf.specs.Taken.{halved, count_of}
 
-pub byte_none : (m at : ℕ) (s : List ℕ) (y : Refusal) → length s ≡ 0 → y ≡ short_at at → Err y ≡ in_one (byte_from m at s)
-unfolding in_one byte_from
-byte_none m at [] y e q = ap Err q
-byte_none m at (b ∷ s) y e q = absurd (omega arith)
+pub byte_none : (m at : ℕ) (s : List ℕ) → length s ≡ 0 → Err (short_at at) ≡ halved (byte_from m at s)
+unfolding halved byte_from
+byte_none m at [] e = refl
+byte_none m at (b ∷ s) e = absurd (omega arith)
 
-pub byte_large : (m at : ℕ) (s : List ℕ) (y : Refusal) → (length s ≡ 0 → ⊥) → m ≤ get_or s 0 0 → y ≡ tag_at at → Err y ≡ in_one (byte_from m at s)
-unfolding in_one byte_from
-byte_large m at [] y n h q = absurd (n refl)
-byte_large m at (b ∷ s) y n h q = ap Err q ∙ sym (ap (λ x. in_one (pick x (got b 1) (bad (tag_at at)))) (le-ltb b m h))
+pub byte_large : (m at : ℕ) (s : List ℕ) → (length s ≡ 0 → ⊥) → m ≤ get_or s 0 0 → Err (tag_at at) ≡ halved (byte_from m at s)
+unfolding halved byte_from
+byte_large m at [] n h = absurd (n refl)
+byte_large m at (b ∷ s) n h = sym (ap (λ x. halved (pick x (got b 1) (bad (tag_at at)))) (le-ltb b m h))
 
-pub byte_small : (m at : ℕ) (s : List ℕ) → (length s ≡ 0 → ⊥) → get_or s 0 0 < m → one_cell (get_or s 0 0) 1 ≡ in_one (byte_from m at s)
-unfolding in_one byte_from
-byte_small m at [] n h = absurd (n refl)
-byte_small m at (b ∷ s) n h = sym (ap (λ x. in_one (pick x (got b 1) (bad (tag_at at)))) (lt-ltb b m h))
+pub byte_small : (m at : ℕ) (s : List ℕ) (h : Halves) → (length s ≡ 0 → ⊥) → get_or s 0 0 < m → get_or s 0 0 < 256 → h ≡ record { low = get_or s 0 0; high = 0 } → Ok (h, 1) ≡ halved (byte_from m at s)
+unfolding halved byte_from
+byte_small m at [] h n lt le e = absurd (n refl)
+byte_small m at (b ∷ s) h n lt le e =
+    let lo : b ≡ b % 2 ^ 64 = omega arith in
+    let hi : 0 ≡ b / 2 ^ 64 = omega arith in
+    let k : h ≡ halves b = e ∙ ap₂ (λ (x y : ℕ). record { low = x; high = y }) lo hi in
+    ap (λ x. Ok (x, 1)) k ∙ sym (ap (λ x. halved (pick x (got b 1) (bad (tag_at at)))) (lt-ltb b m lt))
 
-number_got : (n at : ℕ) (s : List ℕ) → n ≤ length s → number_from n at s ≡ got (le_value (take n s)) n
-unfolding number_from
-number_got n at s h = whole_there n _ s (λ l. got (le_value l) n) h
+pub number_short : (n at : ℕ) (s : List ℕ) → length s < n → Err (short_at at) ≡ halved (number_from n at s)
+unfolding halved number_from
+number_short n at s h = sym (ap halved (whole_short n _ s (λ l. got (le_value l) n) h))
 
-number_bad : (n at : ℕ) (s : List ℕ) → length s < n → number_from n at s ≡ bad (short_at at)
-unfolding number_from
-number_bad n at s h = whole_short n _ s (λ l. got (le_value l) n) h
-
-pub number_short : (n at : ℕ) (s : List ℕ) (y : Refusal) → length s < n → y ≡ short_at at → Err y ≡ in_one (number_from n at s)
-unfolding in_one
-number_short n at s y h q = ap Err q ∙ sym (ap in_one (number_bad n at s h))
-
-pub number_there : (n at v : ℕ) (s : List ℕ) → n ≤ length s → n ≤ 8 → v ≡ le_value (take (min n 8) s) → one_cell v n ≡ in_one (number_from n at s)
-unfolding in_one
-number_there n at v s h few e =
-    ap (λ x. one_cell x n) (one_word n v s e few) ∙ sym (ap in_one (number_got n at s h))
-
-pub wide_short : (at : ℕ) (s : List ℕ) (y : Refusal) → length s < 16 → y ≡ short_at at → Err y ≡ in_two (number_from 16 at s)
-unfolding in_two
-wide_short at s y h q = ap Err q ∙ sym (ap in_two (number_bad 16 at s h))
-
-pub wide_there : (at low high : ℕ) (s : List ℕ) → 16 ≤ length s → low < 2 ^ 64 → low ≡ le_value (take 8 s) → high ≡ le_value (take 8 (take (length s - 8) (drop 8 s)))
-    → two_cells low high 16 ≡ in_two (number_from 16 at s)
-unfolding in_two
-wide_there at low high s h lt el eh =
-    let v : le_value (take 16 s) ≡ low + high * 2 ^ 64 = sym (two_words 16 low high s (lit≤ tt) (lit≤ tt) el eh) in
-    let lo : low ≡ le_value (take 16 s) % 2 ^ 64 = rw v (omega arith) in
-    let hi : high ≡ le_value (take 16 s) / 2 ^ 64 = rw v (omega arith) in
-    ap₂ (λ (x y : ℕ). two_cells x y 16) lo hi ∙ sym (ap in_two (number_got 16 at s h))
-
--- at the width that a match found
-pub fixed_as : (w w' : Width) (at : ℕ) (s : List ℕ) (r : Taken) → w ≡ w' → r ≡ taken_of (fixed w') (leaf_from (fixed w') at s) → r ≡ taken_of (fixed w) (leaf_from (fixed w) at s)
-fixed_as w w' at s r e q = q ∙ ap (λ x. taken_of (fixed x) (leaf_from (fixed x) at s)) (sym e)
+pub number_there : (n at : ℕ) (s : List ℕ) (h : Halves) → n ≤ length s → n ≤ 16 → h ≡ halves (le_value (take (min n 16) s)) → Ok (h, n) ≡ halved (number_from n at s)
+unfolding halved number_from
+number_there n at s h there few e =
+    let m : min n 16 ≡ n = omega arith in
+    ap (λ x. Ok (x, n)) (e ∙ ap (λ k. halves (le_value (take k s))) m) ∙ sym (ap halved (whole_there n _ s (λ l. got (le_value l) n) there))
 
 -- a compact number, from the rule's answer
-abbrev pub compact_taken : Width → ℕ → Answer → Taken
-compact_taken w at a = taken_of (compact w) (placed at a)
+pub compact_read : (a : Said) (at n : ℕ) (h : Halves) → Ok (h, n) ≡ in_halves a → Ok (h, n) ≡ halved (placed at a)
+unfolding halved placed
+compact_read (value v m) at n h e = let p = same_parts e in ap₂ (λ x y. Ok (x, y)) p.0 p.1
+compact_read short at n h e = absurd (let z : ◌≡◌ {A = ℕ} 0 1 = cc in omega arith)
+compact_read prefix at n h e = absurd (let z : ◌≡◌ {A = ℕ} 0 1 = cc in omega arith)
+compact_read range at n h e = absurd (let z : ◌≡◌ {A = ℕ} 0 1 = cc in omega arith)
 
-compact_is : (w : Width) (at : ℕ) (s : List ℕ) → taken_of (compact w) (leaf_from (compact w) at s) ≡ compact_taken w at (compact_from (size w) s)
-unfolding leaf_from
-compact_is w at s = refl
-
--- a refusal, whatever the width
-refused_taken : (k : Leaf) (y : Refusal) → taken_of k (bad y) ≡ Err y
-unfolding taken_of in_one in_two
-refused_taken k y = go (wide k)
-  where
-    go : (b : Bool) → pick b (Err y) (Err y) ≡ Err y
-    go true = refl
-    go false = refl
-
-pub compact_refused : (w : Width) (at : ℕ) (s : List ℕ) (q : Reading) (a : Answer) (y y' : Refusal) → q ≡ in_halves (compact_from (size w) s) → a ≡ said q → placed at a ≡ bad y' → y ≡ y'
-    → Err y ≡ taken_of (compact w) (leaf_from (compact w) at s)
-compact_refused w at s q a y y' e f p g =
-    let b : compact_from (size w) s ≡ a = said_back (compact_from (size w) s) q (sym e) ∙ sym f in
-    ap Err g ∙ sym (refused_taken (compact w) y') ∙ ap (taken_of (compact w)) (sym p) ∙ ap (compact_taken w at) (sym b) ∙ sym (compact_is w at s)
-
-module _ (w : Width) (at low high used : ℕ) (s : List ℕ) (q : Reading) (e : q ≡ in_halves (compact_from (size w) s)) (f : q ≡ Value low high used) where
-  compact_value : compact_from (size w) s ≡ value (whole low high) used
-  compact_value = said_back (compact_from (size w) s) (Value low high used) (sym e ∙ f)
-
-  pub compact_two : two w ≡ true → two_cells low high used ≡ taken_of (compact w) (leaf_from (compact w) at s)
-  unfolding taken_of in_two in_one leaf_from placed
-  compact_two t =
-      let halves : in_halves (compact_from (size w) s) ≡ Value low high used = sym e ∙ f in
-      let v : Value (whole low high % 2 ^ 64) (whole low high / 2 ^ 64) used ≡ Value low high used = ap in_halves (sym compact_value) ∙ halves in
-      let lo : whole low high % 2 ^ 64 ≡ low = cc in
-      let hi : whole low high / 2 ^ 64 ≡ high = cc in
-      ap₂ (λ (x y : ℕ). two_cells x y used) (sym lo) (sym hi)
-      ∙ ap (λ b. pick b (two_cells (whole low high % 2 ^ 64) (whole low high / 2 ^ 64) used) (one_cell (whole low high) used)) (sym t)
-      ∙ ap (compact_taken w at) (sym compact_value)
-
-  pub compact_one_cell : two w ≡ false → one_cell low used ≡ taken_of (compact w) (leaf_from (compact w) at s)
-  unfolding taken_of in_two in_one leaf_from placed
-  compact_one_cell t =
-      let took = read_took w s low high used (sym e ∙ f) in
-      let none : high ≡ 0 = low_only w low high (narrow w t) took.fitting in
-      let v : low ≡ whole low high = omega arith in
-      ap (λ (x : ℕ). one_cell x used) v
-      ∙ ap (λ b. pick b (two_cells (whole low high % 2 ^ 64) (whole low high / 2 ^ 64) used) (one_cell (whole low high) used)) (sym t)
-      ∙ ap (compact_taken w at) (sym compact_value)
-    where
-      narrow : (w : Width) → two w ≡ false → size w ≤ 8
-      narrow w1 t = lit≤ tt
-      narrow w2 t = lit≤ tt
-      narrow w4 t = lit≤ tt
-      narrow w8 t = lit≤ tt
-      narrow w16 t = absurd (let z : ◌≡◌ {A = ℕ} 0 1 = cc in omega arith)
-
--- at the leaf that a match found
-pub leaf_as : (k k' : Leaf) (at : ℕ) (s : List ℕ) (r : Taken) → k ≡ k' → r ≡ taken_of k' (leaf_from k' at s) → r ≡ taken_of k (leaf_from k at s)
-leaf_as k k' at s r e q = q ∙ ap (λ x. taken_of x (leaf_from x at s)) (sym e)
+pub compact_refused : (a : Said) (at : ℕ) (f : Fault) → Err f ≡ in_halves a → Err (because (reason_of f) at) ≡ halved (placed at a)
+unfolding halved placed
+compact_refused (value v m) at f e = absurd (let z : ◌≡◌ {A = ℕ} 0 1 = cc in omega arith)
+compact_refused short at f e = let q : f ≡ Short = cc in ap (λ x. Err (because (reason_of x) at)) q
+compact_refused prefix at f e = let q : f ≡ Prefix = cc in ap (λ x. Err (because (reason_of x) at)) q
+compact_refused range at f e = let q : f ≡ Range = cc in ap (λ x. Err (because (reason_of x) at)) q
 
 -- ---- a count
 
-pub count_one : (r : Res ℕ) (n u : ℕ) → in_one r ≡ one_cell n u → Ok (n, u) ≡ count_of r
-unfolding in_one count_of
-count_one (got v m) n u e =
-    let a : v ≡ n = cc in
-    let b : m ≡ u = cc in
-    ap₂ (λ x y. Ok (x, y)) (sym a) (sym b)
-count_one (bad y) n u e = absurd (let z : ◌≡◌ {A = ℕ} 0 1 = cc in omega arith)
+pub count_read : (r : Res ℕ) (h : Halves) (n : ℕ) → Ok (h, n) ≡ halved r → h.high ≡ 0 → Ok (h.low, n) ≡ count_of r
+unfolding halved count_of
+count_read (got v m) h n e z =
+    let p = same_parts e in
+    let lo : h.low ≡ v % 2 ^ 64 = ap (λ (x : Halves). x.low) p.0 in
+    let hi : h.high ≡ v / 2 ^ 64 = ap (λ (x : Halves). x.high) p.0 in
+    let w : h.low ≡ v = omega arith in
+    ap₂ (λ x y. Ok (x, y)) w p.1
+count_read (bad y) h n e z = absurd (let k : ◌≡◌ {A = Answer (Halves × ℕ)} (Ok (h, n)) (Err y) = e in let z : ◌≡◌ {A = ℕ} 0 1 = cc in omega arith)
 
-pub count_two : {A : Type 0} (r : Res ℕ) (n m u : ℕ) → in_one r ≡ two_cells n m u → A
-unfolding in_one
-count_two (got v k) n m u e = absurd (let z : ◌≡◌ {A = ℕ} 0 1 = cc in omega arith)
-count_two (bad y) n m u e = absurd (let z : ◌≡◌ {A = ℕ} 0 1 = cc in omega arith)
+pub count_refused : (r : Res ℕ) (y : Refusal) → Err y ≡ halved r → Err y ≡ count_of r
+unfolding halved count_of
+count_refused (got v m) y e = absurd (let k : ◌≡◌ {A = Answer (Halves × ℕ)} (Err y) (Ok (halves v, m)) = e in let z : ◌≡◌ {A = ℕ} 0 1 = cc in omega arith)
+count_refused (bad x) y e = let k : ◌≡◌ {A = Answer (Halves × ℕ)} (Err y) (Err x) = e in let q : y ≡ x = cc in ap Err q
 
-pub count_none : (r : Res ℕ) (y : Refusal) → in_one r ≡ Err y → Err y ≡ count_of r
-unfolding in_one count_of
-count_none (got v m) y e = absurd (let z : ◌≡◌ {A = ℕ} 0 1 = cc in omega arith)
-count_none (bad x) y e = let a : x ≡ y = cc in ap Err (sym a)
+-- a count is a number of 32 bits
+pub count_small : (at : ℕ) (s : List ℕ) (h : Halves) (n : ℕ) → Under 256 s → Ok (h, n) ≡ halved (leaf_from (compact w4) at s) → h.high ≡ 0
+count_small at s h n u e =
+    let g = leaf_got (leaf_from (compact w4) at s) (Ok (h, n)) h n e refl in
+    let b : whole h.low h.high < 2 ^ 32 = leaf_bound (compact w4) at s (whole h.low h.high) n u g.0 in
+    omega arith

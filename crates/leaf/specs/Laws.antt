@@ -1,43 +1,35 @@
 -- For callers: what a leaf's or a count's answer says of the written rule's.
-use Rattle.std.specs.Prelude.{Bool, true, false, List, ◌≡◌, refl, ℕ, ◌/◌, ◌%◌, ◌^◌, Ok, Err}
-use Rattle.std.proofs.Common.{ap, sym, ◌∙◌, ap₂, subst, arith}
-use Rattle.rules.specs.Basics.{pick}
-use Rattle.rules.specs.Cells.{wide}
+use Rattle.std.specs.Prelude.{◌≡◌, ℕ, Ok, Err}
+use Rattle.std.proofs.Common.{ap, sym, ◌∙◌, ap₂, arith}
+use Rattle.rules.specs.Bytes.{whole, halves}
 use Rattle.rules.specs.Parser.{Res, got, bad}
-use Rattle.rules.specs.Wire.{leaf_from}
-use Rattle.rules.specs.declared.Leaf.{Leaf}
+use Rattle.rules.specs.Refusals.{Answer}
+use Rattle.rules.specs.declared.Halves.{Halves}
 use Rattle.rules.specs.declared.Refusal.{Refusal}
-use Rattle.leaf.specs.Taken.{Taken, one_cell, two_cells, Count, in_one, in_two, taken_of, count_of}
+use Rattle.rules.proofs.Laws.Basics.{same_parts}
+use Rattle.leaf.specs.Taken.{halved, count_of}
 
-pub count_got : (r : Res ℕ) (q : Count) (n u : ℕ) → q ≡ count_of r → q ≡ Ok (n, u) → r ≡ got n u
+pub count_got : (r : Res ℕ) (q : Answer (ℕ × ℕ)) (n u : ℕ) → q ≡ count_of r → q ≡ Ok (n, u) → r ≡ got n u
 unfolding count_of
-count_got (got v m) q n u e f =
-    let g : Ok (v, m) ≡ Ok (n, u) = sym e ∙ f in
-    let a : v ≡ n = cc in
-    let b : m ≡ u = cc in
-    ap₂ got a b
-count_got (bad y) q n u e f = absurd (let g : Err y ≡ Ok (n, u) = sym e ∙ f in let z : ◌≡◌ {A = ℕ} 0 1 = cc in omega arith)
+count_got (got v m) q n u e f = let p = same_parts (sym e ∙ f) in ap₂ got p.0 p.1
+count_got (bad y) q n u e f = absurd (let g : ◌≡◌ {A = Answer (ℕ × ℕ)} (Err y) (Ok (n, u)) = sym e ∙ f in let z : ◌≡◌ {A = ℕ} 0 1 = cc in omega arith)
 
-pub count_bad : (r : Res ℕ) (q : Count) (y : Refusal) → q ≡ count_of r → q ≡ Err y → r ≡ bad y
+pub count_bad : (r : Res ℕ) (q : Answer (ℕ × ℕ)) (y : Refusal) → q ≡ count_of r → q ≡ Err y → r ≡ bad y
 unfolding count_of
-count_bad (got v m) q y e f = absurd (let g : Ok (v, m) ≡ Err y = sym e ∙ f in let z : ◌≡◌ {A = ℕ} 0 1 = cc in omega arith)
-count_bad (bad x) q y e f = let g : Err x ≡ Err y = sym e ∙ f in let a : x ≡ y = cc in ap bad a
+count_bad (got v m) q y e f = absurd (let g : ◌≡◌ {A = Answer (ℕ × ℕ)} (Ok (v, m)) (Err y) = sym e ∙ f in let z : ◌≡◌ {A = ℕ} 0 1 = cc in omega arith)
+count_bad (bad x) q y e f = let g : ◌≡◌ {A = Answer (ℕ × ℕ)} (Err x) (Err y) = sym e ∙ f in let a : x ≡ y = cc in ap bad a
 
--- what was taken, by whether it is wide
-abbrev pub TookAs : Leaf → Res ℕ → Taken → Type 0
-TookAs k r (one_cell v n) = (wide k ≡ false) × (r ≡ got v n)
-TookAs k r (two_cells low high n) = (v : ℕ) × (wide k ≡ true) × (r ≡ got v n) × (low ≡ v % 2 ^ 64) × (high ≡ v / 2 ^ 64)
-TookAs k r (Err y) = r ≡ bad y
+-- a value that was read is what its halves say, and one that was not is refused
+pub leaf_got : (r : Res ℕ) (q : Answer (Halves × ℕ)) (h : Halves) (n : ℕ) → q ≡ halved r → q ≡ Ok (h, n) → (r ≡ got (whole h.low h.high) n) × (h ≡ halves (whole h.low h.high))
+unfolding halved
+leaf_got (got v m) q h n e f =
+    let p = same_parts (sym e ∙ f) in
+    let w : v ≡ whole (halves v).low (halves v).high = omega arith in
+    let k : v ≡ whole h.low h.high = w ∙ ap (λ (x : Halves). whole x.low x.high) p.0 in
+    (ap₂ got k p.1, sym p.0 ∙ ap halves k)
+leaf_got (bad y) q h n e f = absurd (let g : ◌≡◌ {A = Answer (Halves × ℕ)} (Err y) (Ok (h, n)) = sym e ∙ f in let z : ◌≡◌ {A = ℕ} 0 1 = cc in omega arith)
 
-took_as : (k : Leaf) (r : Res ℕ) → TookAs k r (taken_of k r)
-unfolding taken_of in_one in_two
-took_as k r = go (wide k) refl r
-  where
-    go : (b : Bool) → wide k ≡ b → (r : Res ℕ) → TookAs k r (pick b (in_two r) (in_one r))
-    go true e (got v n) = (v, e, refl, refl, refl)
-    go true e (bad y) = refl
-    go false e (got v n) = (e, refl)
-    go false e (bad y) = refl
-
-pub took : (k : Leaf) (at : ℕ) (s : List ℕ) (t t' : Taken) → t ≡ taken_of k (leaf_from k at s) → t ≡ t' → TookAs k (leaf_from k at s) t'
-took k at s t t' e f = subst (TookAs k (leaf_from k at s)) (sym e ∙ f) (took_as k (leaf_from k at s))
+pub leaf_bad : (r : Res ℕ) (q : Answer (Halves × ℕ)) (y : Refusal) → q ≡ halved r → q ≡ Err y → r ≡ bad y
+unfolding halved
+leaf_bad (got v m) q y e f = absurd (let g : ◌≡◌ {A = Answer (Halves × ℕ)} (Ok (halves v, m)) (Err y) = sym e ∙ f in let z : ◌≡◌ {A = ℕ} 0 1 = cc in omega arith)
+leaf_bad (bad x) q y e f = let g : ◌≡◌ {A = Answer (Halves × ℕ)} (Err x) (Err y) = sym e ∙ f in let a : x ≡ y = cc in ap bad a

@@ -1,134 +1,76 @@
-// Scalars and counts at the front of a message: a leaf's value as its cells. Floats and signed integers are their bits, and no bit of them is looked at.
+// Scalars and counts at the front of a message: a leaf's value in two halves. Floats and signed integers are their bits, and no bit of them is looked at.
 #![tactic(auto)]
 
-ghost use Rattle.std.specs.Prelude.{◌≡◌, ◌≤◌};
-ghost use Rattle.rules.specs.Refusals.{because};
-ghost use Rattle.rules.specs.Cells.{two};
+ghost use Rattle.std.specs.Prelude.{◌≡◌};
+ghost use Rattle.rules.specs.Cells.{wide};
+ghost use Rattle.rules.specs.Types.{size};
 ghost use Rattle.rules.specs.Wire.{byte_from, number_from, leaf_from};
-ghost use Rattle.leaf.specs.Taken.{in_one, in_two, taken_of, count_of};
+ghost use Rattle.leaf.specs.Taken.{halved, count_of};
 
-use compact::Reading;
-use rules::{Leaf, Refusal, Width};
-
-// A leaf's value in one cell or in two, with the bytes that it took, or why it is refused.
-#[derive(Clone, Copy)]
-pub enum Taken {
-    One(u64, usize),
-    Two(u64, u64, usize),
-    Refused(Refusal),
-}
-
-// A count with the bytes of its head, or why it is refused.
-#[derive(Clone, Copy)]
-pub enum Count {
-    Of(u64, usize),
-    Refused(Refusal),
-}
-
-fn because(number: u32, place: usize) -> Refusal
-    ensures { result ≡ because number place }
-{
-    Refusal { number, place }
-}
+use rules::{Answer, Halves, Leaf, Reason, Width, refuse};
 
 // A byte below m.
-fn byte_from(m: u8, at: usize, s: &[u8]) -> Taken
-    ensures { result ≡ in_one (byte_from m at s.now) }
+fn byte_from(m: u8, at: usize, s: &[u8]) -> Answer<(Halves, usize)>
+    ensures { result ≡ halved (byte_from m at s.now) }
 {
     if s.len() == 0 {
-        return Taken::Refused(because(rules::SHORT, at));
+        return refuse(Reason::Short, at);
     }
-    let b = s[0];
-    if m <= b {
-        return Taken::Refused(because(rules::TAG, at));
+    if m <= s[0] {
+        return refuse(Reason::Tag, at);
     }
-    Taken::One(b as u64, 1)
-}
-
-// A number of n bytes, of eight at most.
-fn number_from(n: usize, at: usize, s: &[u8]) -> Taken
-    requires { n ≤ 8 }
-    ensures { result ≡ in_one (number_from n at s.now) }
-{
-    if s.len() < n {
-        return Taken::Refused(because(rules::SHORT, at));
-    }
-    Taken::One(number::word(s, n), n)
-}
-
-// A number of sixteen bytes, in two halves.
-fn wide_number_from(at: usize, s: &[u8]) -> Taken
-    ensures { result ≡ in_two (number_from 16 at s.now) }
-{
-    if s.len() < 16 {
-        return Taken::Refused(because(rules::SHORT, at));
-    }
-    Taken::Two(number::word(s, 8), number::word(&s[8..], 8), 16)
+    Ok((Halves::from(s[0] as u64), 1))
 }
 
 // A fixed integer or a float.
-fn fixed_from(width: Width, at: usize, s: &[u8]) -> Taken
-    ensures { result ≡ taken_of (Leaf.Fixed width) (leaf_from (Leaf.Fixed width) at s.now) }
+fn number_from(width: Width, at: usize, s: &[u8]) -> Answer<(Halves, usize)>
+    ensures { result ≡ halved (number_from (size width) at s.now) }
 {
-    match width {
-        Width::W1 => number_from(1, at, s),
-        Width::W2 => number_from(2, at, s),
-        Width::W4 => number_from(4, at, s),
-        Width::W8 => number_from(8, at, s),
-        Width::W16 => wide_number_from(at, s),
+    let n = compact::size(width) as usize;
+    if s.len() < n {
+        return refuse(Reason::Short, at);
     }
+    Ok((number::halves(s, n), n))
 }
 
-// Whether values of a width take two cells.
-fn is_wide(width: Width) -> bool
-    ensures { result ≡ two width }
-{
-    match width {
-        Width::W1 => false,
-        Width::W2 => false,
-        Width::W4 => false,
-        Width::W8 => false,
-        Width::W16 => true,
-    }
-}
-
-fn compact_from(width: Width, at: usize, s: &[u8]) -> Taken
-    ensures { result ≡ taken_of (Leaf.Compact width) (leaf_from (Leaf.Compact width) at s.now) }
+fn compact_from(width: Width, at: usize, s: &[u8]) -> Answer<(Halves, usize)>
+    ensures { result ≡ halved (leaf_from (Leaf.Compact width) at s.now) }
 {
     match compact::read(s, width) {
-        Reading::Short => Taken::Refused(because(rules::SHORT, at)),
-        Reading::Prefix => Taken::Refused(because(rules::COMPACT_PREFIX, at)),
-        Reading::Range => Taken::Refused(because(rules::COMPACT_RANGE, at)),
-        Reading::Value { low, high, used } => {
-            if is_wide(width) {
-                return Taken::Two(low, high, used);
-            }
-            Taken::One(low, used)
-        }
+        Ok(read) => Ok(read),
+        Err(fault) => refuse(Reason::from(fault), at),
     }
 }
 
-// A leaf at offset `at`, which is where s starts.
-pub fn leaf_from(leaf: Leaf, at: usize, s: &[u8]) -> Taken
-    ensures { result ≡ taken_of leaf (leaf_from leaf at s.now) }
+// A leaf at offset `at`, which is where s starts: its value, with the bytes that it took.
+#[tactic(auto, unfolding(crate::specs::Taken::halved, rules::specs::Wire::leaf_from))]
+pub fn leaf_from(leaf: Leaf, at: usize, s: &[u8]) -> Answer<(Halves, usize)>
+    ensures { result ≡ halved (leaf_from leaf at s.now) }
 {
     match leaf {
-        Leaf::Unit => Taken::One(0, 0),
+        Leaf::Unit => Ok((Halves::from(0), 0)),
         Leaf::Bool => byte_from(2, at, s),
         Leaf::OptionBool => byte_from(3, at, s),
-        Leaf::Fixed(width) => fixed_from(width, at, s),
+        Leaf::Fixed(width) => number_from(width, at, s),
         Leaf::Compact(width) => compact_from(width, at, s),
-        Leaf::Float(width) => fixed_from(width, at, s),
+        Leaf::Float(width) => number_from(width, at, s),
     }
 }
 
-// The count of a vector or of bits: a compact u32.
-pub fn count_from(at: usize, s: &[u8]) -> Count
+// Whether a leaf's value takes two cells.
+pub fn is_wide(leaf: Leaf) -> bool
+    ensures { result ≡ wide leaf }
+{
+    matches!(
+        leaf,
+        Leaf::Fixed(Width::W16) | Leaf::Compact(Width::W16) | Leaf::Float(Width::W16)
+    )
+}
+
+// The count of a vector or of bits, which is a compact u32, with the bytes of its head.
+pub fn count_from(at: usize, s: &[u8]) -> Answer<(u64, usize)>
     ensures { result ≡ count_of (leaf_from (Leaf.Compact Width.W4) at s.now) }
 {
-    match compact_from(Width::W4, at, s) {
-        Taken::One(n, used) => Count::Of(n, used),
-        Taken::Two(n, _, used) => Count::Of(n, used),
-        Taken::Refused(y) => Count::Refused(y),
-    }
+    let (n, used) = compact_from(Width::W4, at, s)?;
+    Ok((n.low, used))
 }

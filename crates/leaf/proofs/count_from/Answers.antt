@@ -1,16 +1,10 @@
-use mathlib.Core.Path.{sym, ◌∙◌}
-use Rattle.leaf.proofs.Leaves.{count_one, count_two, count_none}
-use Rattle.leaf.specs.Taken.{taken_of}
+use Rattle.std.proofs.Common.{◌∙◌, sym}
+use Rattle.rules.proofs.Laws.Basics.{handed_on}
+use Rattle.leaf.proofs.Leaves.{count_read, count_refused, count_small}
 use Rattle.leaf.proofs.count_from.Goals as goal
 
-pub returns-in-One : goal.returns-in-One
-unfolding taken_of
-returns-in-One c = count_one _ _ _ (sym c.compact_from.ensures ∙ c.in-One.is)
+pub returns-in_err-n : goal.returns-in_err-n
+returns-in_err-n c = handed_on _ _ c.from_residual.ensures.1 ∙ count_refused _ _ (sym c.in_err-n.was ∙ c.compact_from.ensures)
 
-pub returns-in-Two : goal.returns-in-Two
-unfolding taken_of
-returns-in-Two c = count_two _ _ _ _ (sym c.compact_from.ensures ∙ c.in-Two.is)
-
-pub returns-in-Refused : goal.returns-in-Refused
-unfolding taken_of
-returns-in-Refused c = count_none _ _ (sym c.compact_from.ensures ∙ c.in-Refused.is)
+pub returns : goal.returns
+returns c = count_read _ _ _ (sym c.in_ok-n.was ∙ c.compact_from.ensures) (count_small _ _ _ _ (λ i. (c.type_inv.s i).fits) (sym c.in_ok-n.was ∙ c.compact_from.ensures))

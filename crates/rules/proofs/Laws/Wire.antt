@@ -164,6 +164,10 @@ exact_back (float w) at s v n u e = number_back (size w) at s v n u e
 pub leaf_exact : (k : Leaf) (at : ℕ) (s : List ℕ) (v n : ℕ) → Under 256 s → leaf_from k at s ≡ got v n → leaf_bytes k v ≡ take n s
 leaf_exact k at s v n u e = (exact_back k at s v n u e).1.1
 
+-- .. and the value is one of the leaf
+pub leaf_bound : (k : Leaf) (at : ℕ) (s : List ℕ) (v n : ℕ) → Under 256 s → leaf_from k at s ≡ got v n → v < bound k
+leaf_bound k at s v n u e = (exact_back k at s v n u e).1.0
+
 exact_like : (w l : List ℕ) → w ≡ l → Under 256 l → Like (replicate (length w) 8) w l
 exact_like w l e u = subst (λ x. Like (replicate (length x) 8) x l) (sym e) (like_same 8 l u)
 
