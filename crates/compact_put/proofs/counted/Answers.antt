@@ -1,5 +1,5 @@
 -- `compact_put::counted` meets its contract: the first byte and both halves, one after the other, are the long form padded. Assumes nothing.
-use native.Mathlib.Omega.{arith}
+use Rattle.std.proofs.Common.{arith}
 use Rattle.rules.proofs.Laws.Compact.Sizes.{significant_4}
 use Rattle.number.specs.Laws.{two_puts}
 use Rattle.compact.specs.Halves.{whole}

@@ -1,9 +1,9 @@
 -- `compact_put::encoded_len` meets its contract: each form says its length. Assumes nothing.
-use mathlib.Core.Path.{ap, sym, ◌∙◌}
-use Prim.Native.Nat.{ℕ, ◌+◌}
+use Rattle.std.proofs.Common.{ℕ, ◌+◌, ◌^◌, ◌≤◌, ap, sym, ◌∙◌, arith}
+use Rattle.std.proofs.lemmas.Grind.{common_steps}
 use Rattle.rules.proofs.Laws.Compact.Encoding.{length_0, length_1, length_2, length_3}
+use Rattle.compact.specs.Halves.{whole}
 use Rattle.compact_put.specs.Padded.{OfForm}
-use Rattle.compact_put.proofs.Outputs.{last_form}
 use Rattle.compact_put.proofs.encoded_len.Goals as goal
 
 pub returns-in-0 : goal.returns-in-0
@@ -20,4 +20,6 @@ returns-in-2 c =
     sym (length_2 _ h.0 h.1)
 
 pub returns-in_default : goal.returns-in_default
-returns-in_default c = ap (λ (x : ℕ). x + 1) c.significant.ensures ∙ sym (length_3 _ (last_form _ _ c.form_of.ensures c.in_default.in_default-own.rest))
+returns-in_default c =
+    let large : 2 ^ 30 ≤ whole c.args.low c.args.high = grind (arith, common_steps) in
+    ap (λ (x : ℕ). x + 1) c.significant.ensures ∙ sym (length_3 _ large)
