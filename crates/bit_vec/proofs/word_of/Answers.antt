@@ -1,10 +1,13 @@
 use Rattle.std.proofs.Common.{◌∙◌, arith}
 use Rattle.rules.proofs.Laws.Bits.Places.{gathered_all, gathered_lt}
-use Rattle.bit_vec.proofs.Words.{no_bit, bit_more}
+use Rattle.bit_vec.proofs.Words.{word_there, no_bit, bit_more}
 use Rattle.bit_vec.proofs.word_of.Goals as goal
 
 pub loop-left-init : goal.loop-left-init
 loop-left-init g c = no_bit _ _ _ _ _ _ _ c.requires.0 (omega arith)
+
+pub bounds-from-i : goal.bounds-from-i
+bounds-from-i g c = rw c.BITS-in-loop-left.ensures (word_there _ _ _ _ g.met.F.Word.some_bits c.requires.0 (omega arith))
 
 pub overflow_mul-value : goal.overflow_mul-value
 overflow_mul-value g c = omega (arith, gathered_lt _ _ _ 63 _ _ c.loop-left.invariant (omega (arith, g.met.T.Word.at_most_64)))
