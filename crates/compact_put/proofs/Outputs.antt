@@ -1,13 +1,9 @@
 -- Encodings as they are written: bytes in the front of an array of zeros, and the forms. `sets l at vs` is l with vs from place at on.
-use mathlib.Core.List.{List, ◌∷◌, ◌++◌, append_assoc}
-use mathlib.Core.Path.{◌≡◌, refl, ap, ap₂, sym, ◌∙◌}
-use Prim.Native.Nat.{ℕ, zero, suc, ◌+◌, ◌-◌, ◌*◌, ◌%◌, ◌^◌, ◌≤◌, ◌<◌}
-use native.Mathlib.Nat.{mod-eq_of_lt}
-use native.Mathlib.Omega.{arith}
-use lib.Bits.{bit_or, or_shifted}
-use lib.Dec.{lit<}
-use lib.ListN.{length, drop, set, replicate, length-append, length-replicate, replicate-append-replicate}
-use lib.Seq.{sets, drop_at}
+use Rattle.std.proofs.Common.{◌≡◌, ℕ, zero, suc, ◌+◌, ◌-◌, ◌*◌, ◌%◌, ◌^◌, ◌≤◌, ◌<◌, List, ◌∷◌, ◌++◌, length, drop, set, replicate, bit_or, refl, ap, ap₂, sym, ◌∙◌, append_assoc, arith, mod-eq_of_lt, length-append, drop_at}
+use Rattle.std.proofs.lemmas.List.{length-replicate}
+use Rattle.std.proofs.Math.ListN.{replicate-append-replicate}
+use Rattle.std.proofs.lemmas.Nat.{or_shifted}
+use Rattle.std.proofs.lemmas.List.Edits.{sets}
 use Rattle.rules.specs.Bytes.{le_bytes, whole}
 use Rattle.rules.specs.Compact.{significant, long, compact_bytes}
 use Rattle.rules.proofs.Laws.Compact.Sizes.{significant_4}
@@ -57,12 +53,12 @@ plain_one low high h =
 pub plain_two : (low high : ℕ) → OfForm Two (whole low high) → le_bytes 2 (bit_or ((low * 4) % 2 ^ 64) 1) ≡ compact_bytes (whole low high)
 plain_two low high h =
     let e : low * 4 + 1 ≡ whole low high * 4 + 1 = omega arith in
-    ap (le_bytes 2) (tag (2 ^ 64) low 1 (omega arith) (lit< tt) ∙ e) ∙ sym (encode_1 (whole low high) h.0 h.1)
+    ap (le_bytes 2) (tag (2 ^ 64) low 1 (omega arith) (omega arith) ∙ e) ∙ sym (encode_1 (whole low high) h.0 h.1)
 
 pub plain_four : (low high : ℕ) → OfForm Four (whole low high) → le_bytes 4 (bit_or ((low * 4) % 2 ^ 64) 2) ≡ compact_bytes (whole low high)
 plain_four low high h =
     let e : low * 4 + 2 ≡ whole low high * 4 + 2 = omega arith in
-    ap (le_bytes 4) (tag (2 ^ 64) low 2 (omega arith) (lit< tt) ∙ e) ∙ sym (encode_2 (whole low high) h.0 h.1)
+    ap (le_bytes 4) (tag (2 ^ 64) low 2 (omega arith) (omega arith) ∙ e) ∙ sym (encode_2 (whole low high) h.0 h.1)
 
 bytes_zero : (k : ℕ) → le_bytes k 0 ≡ zeros k
 unfolding le_bytes
@@ -85,7 +81,7 @@ counted_is n low high b e large l h eb =
     let four : 4 ≤ n = omega (arith, significant_4 v large) in
     let most : n ≤ 16 = omega (arith, significant_16 low high l h) in
     let sum : n + (16 - n) ≡ 16 = omega arith in
-    let first : bit_or (((n - 4) * 4) % 256) 3 ≡ (n - 4) * 4 + 3 = tag 256 (n - 4) 3 (omega arith) (lit< tt) in
+    let first : bit_or (((n - 4) * 4) % 256) 3 ≡ (n - 4) * 4 + 3 = tag 256 (n - 4) 3 (omega arith) (omega arith) in
     let rest : le_bytes 16 v ≡ le_bytes n v ++ zeros (16 - n) = ap (λ (m : ℕ). le_bytes m v) (sym sum) ∙ bytes_pad n (16 - n) v (under n v most (omega arith)) in
     padded_is b (long n v) (16 - n) (n + 1) (eb ∙ ap₂ (λ (x : ℕ) (y : List ℕ). sets (set (zeros 17) 0 x) 1 y) first rest) (sym (length_long n v)) (omega arith)
     ∙ ap (λ (m : ℕ). padded (long m v)) e

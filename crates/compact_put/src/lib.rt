@@ -1,7 +1,7 @@
 // SCALE compact numbers at u8 to u128, written: the first form that holds a value, its bytes, their length, and the longest at each width.
 #![tactic(auto)]
 
-ghost use Rattle.std.specs.Prelude.{◌≡◌, ◌^◌, ◌≤◌, length, take};
+ghost use Rattle.std.specs.Prelude.{◌≡◌, ◌^◌, ◌≤◌, length};
 ghost use Rattle.std.proofs.lemmas.List.Edits.{sets};
 ghost use Rattle.rules.specs.Totals.{longest_compact};
 ghost use Rattle.rules.specs.Bytes.{le_bytes, whole};
@@ -104,21 +104,13 @@ pub fn write(value: Halves) -> Encoded
     }
 }
 
-// Puts the first n of `bytes` from `at` on, as far as there is room.
-fn put_front(bytes: &[u8], n: usize, out: &mut [u8], at: usize)
-    requires { n ≤ length bytes.now }
-    ensures { out.new ≡ sets out.old at (take n bytes.now) }
+// Puts bytes from `at` on, as far as there is room.
+fn put_bytes(bytes: &[u8], out: &mut [u8], at: usize)
+    ensures { out.new ≡ sets out.old at bytes.now }
 {
-    let mut i = 0;
-    let mut to = at;
-    while i < n {
-        if out.len() <= to {
-            return;
-        }
-        out[to] = bytes[i];
-        to += 1;
-        i += 1;
-    }
+    let at = at.min(out.len());
+    let n = bytes.len().min(out.len() - at);
+    out[at..at + n].copy_from_slice(&bytes[..n]);
 }
 
 // Puts the number's one encoding from `at` on, as far as there is room, and answers its length.
@@ -127,8 +119,7 @@ pub fn put(value: Halves, out: &mut [u8], at: usize) -> usize
     ensures writes { out.new ≡ sets out.old at (compact_bytes (whole value.low value.high)) }
 {
     let encoded = write(value);
-    let n = encoded.len;
     let bytes = encoded.bytes;
-    put_front(&bytes, n, out, at);
-    n
+    put_bytes(&bytes[..encoded.len], out, at);
+    encoded.len
 }

@@ -10,43 +10,26 @@ ghost use Rattle.rules.specs.Bytes.{le_value, le_bytes};
 
 pub use wide::{halves, put_halves};
 
-fn smaller(x: usize, y: usize) -> usize
-    ensures { result ≡ min x y }
-{
-    if x < y {
-        return x;
-    }
-    y
-}
-
-// The number that the first n bytes of t say, of eight at most: read from the last, so that each is shifted in below the others.
+// The number that the first n bytes of t say, of eight at most: those that are not there are 0, as those above the n are.
 pub fn word(t: &[u8], n: usize) -> u64
     ensures { result ≡ le_value (take (min n 8) t.now) }
 {
-    let mut v: u64 = 0;
-    let mut i = smaller(smaller(n, 8), t.len());
-    while 0 < i {
-        i -= 1;
-        let b = t[i] as u64;
-        v = (v << 8) | b;
-    }
-    v
+    let n = n.min(8).min(t.len());
+    let mut bytes = [0; 8];
+    bytes[..n].copy_from_slice(&t[..n]);
+    u64::from_le_bytes(bytes)
 }
 
 // Writes the lowest n bytes of x from place `at` on.
 pub fn put(out: &mut [u8], at: usize, x: u64, n: usize)
     ensures { out.new ≡ sets out.old at (le_bytes n x) }
 {
-    let mut v = x;
-    let mut i = at;
-    let mut left = n;
-    while 0 < left {
-        if out.len() <= i {
-            return;
-        }
-        out[i] = (v & 255) as u8;
-        v = v >> 8;
-        i += 1;
-        left -= 1;
+    let at = at.min(out.len());
+    let end = at + n.min(out.len() - at);
+    let mut left = x;
+    let part = &mut out[at..end];
+    for byte in part.iter_mut() {
+        *byte = (left % 256) as u8;
+        left /= 256;
     }
 }

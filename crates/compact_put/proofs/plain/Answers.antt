@@ -1,8 +1,6 @@
 -- `compact_put::plain` meets its contract: bytes written into the front of zeros are the bytes padded. Assumes nothing.
-use mathlib.Core.List.{append-nil}
-use mathlib.Core.Path.{ap, sym, ◌∙◌}
-use native.Mathlib.Omega.{arith}
-use lib.Seq.{sets}
+use Rattle.std.proofs.Common.{append-nil, ap, sym, ◌∙◌, arith}
+use Rattle.std.proofs.lemmas.List.Edits.{sets}
 use Rattle.rules.specs.Bytes.{le_bytes}
 use Rattle.rules.proofs.Laws.Bytes.{length_bytes}
 use Rattle.compact_put.proofs.Outputs.{padded_is}

@@ -1,12 +1,16 @@
 -- `compact_put::put` meets its contract: the front of what `write` gives is the encoding. Assumes nothing.
-use Rattle.compact_put.proofs.Fronts.{encoding_put}
-use Rattle.compact_put.specs.Laws.{written_room}
+use Rattle.std.proofs.Common.{sym, length-take-le}
+use Rattle.compact_put.specs.Laws.{written_len, written_front, written_room}
 use Rattle.compact_put.proofs.put.Goals as goal
 
-pub put_front-requires : goal.put_front-requires
-put_front-requires c = written_room _ _ c.write-encoded.ensures
+pub slice_bounds-bytes-end : goal.slice_bounds-bytes-end
+slice_bounds-bytes-end c = written_room _ _ c.write-encoded.ensures
 
-pub returns : goal.returns
-returns c =
-    let both = encoding_put _ _ _ _ _ c.write-encoded.ensures c.put_front.ensures in
-    record { answers = both.0; writes = both.1 }
+pub slice_bounds-put_bytes-end : goal.slice_bounds-put_bytes-end
+slice_bounds-put_bytes-end c = sym (length-take-le _ _ (written_room _ _ c.write-encoded.ensures))
+
+pub returns-clause-answers : goal.returns-clause-answers
+returns-clause-answers c = written_len _ _ c.write-encoded.ensures
+
+pub returns-clause-writes : goal.returns-clause-writes
+returns-clause-writes c = rw (written_front _ _ c.write-encoded.ensures) at c.put_bytes.ensures

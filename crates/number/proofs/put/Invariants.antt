@@ -1,12 +1,8 @@
--- `number::put` meets its contract: what is left to write, written from here, gives the whole. Assumes nothing.
-use mathlib.Core.Path.{◌≡◌}
-use lib.ListN.{length}
-use lib.Seq.{sets}
+-- `number::put` meets its contract: what is left to write, written from here, gives the whole of the part that bytes go to. Assumes nothing.
+use Rattle.std.proofs.Common.{◌≡◌, ◌-◌, length}
+use Rattle.std.proofs.lemmas.List.Edits.{sets}
 use Rattle.rules.specs.Bytes.{le_bytes}
 use Rattle.number.proofs.put.Given as goal
 
-abbrev pub invariant-loop-left : goal.invariant-loop-left
-invariant-loop-left l = (sets l.out l.i (le_bytes l.left l.v) ≡ sets l.initial.out l.at (le_bytes l.n l.x)) × (length l.out ≡ length l.initial.out)
-
-abbrev pub decreases-loop-left : goal.decreases-loop-left
-decreases-loop-left l = l.left
+abbrev pub invariant-loop-byte : goal.invariant-loop-byte
+invariant-loop-byte l = let n = length l.initial.part in sets l.part l.byte-index (le_bytes (n - l.byte-index) l.left) ≡ sets l.initial.part 0 (le_bytes n l.x)

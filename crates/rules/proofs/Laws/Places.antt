@@ -1,5 +1,6 @@
 -- Lists as the code leaves them: `sets l i vs` is l with vs from place i on, as far as l goes, and `take (length s - k) (drop k s)` is the part `&s[k..]`.
-use Rattle.std.specs.Prelude.{List, ◌++◌, [], ◌∷◌, ◌≡◌, refl, ℕ, suc, ◌+◌, ◌-◌, ◌≤◌, ◌<◌, length, drop, take, get_or, set}
+use Rattle.std.specs.Prelude.{List, ◌++◌, [], ◌∷◌, ◌≡◌, refl, ℕ, suc, ◌+◌, ◌-◌, ◌≤◌, ◌<◌, min, length, drop, take, get_or, set}
+use Rattle.std.proofs.Math.Decide.{dec_le}
 use Rattle.std.proofs.Common.{append_assoc, ap, sym, ◌∙◌, le_of_eq, add-zero, add-one, arith, length-drop, take-append-drop, length-set, take_all, take-add, take-suc, length-take-le, drop_at, drop-drop}
 use Rattle.std.proofs.lemmas.List.Edits.{sets, sets-eq}
 use Rattle.std.proofs.Math.Seq.{set_out}
@@ -9,6 +10,11 @@ use Rattle.rules.specs.Basics.{onto}
 pub sets_out : (vs l : List ℕ) (i : ℕ) → length l ≤ i → sets l i vs ≡ l
 sets_out [] l i h = refl
 sets_out (v ∷ vs) l i h = ap (λ (m : List ℕ). sets m (suc i) vs) (set_out l i v h) ∙ sets_out vs l (suc i) (omega arith)
+
+-- no elements, or a place past the end
+pub sets_none : (vs l : List ℕ) (i : ℕ) → (0 < length vs → length l ≤ i) → sets l i vs ≡ l
+sets_none [] l i h = refl
+sets_none (v ∷ vs) l i h = sets_out (v ∷ vs) l i (h (omega arith))
 
 pub sets_length : (vs l : List ℕ) (i : ℕ) → length (sets l i vs) ≡ length l
 sets_length [] l i = refl
@@ -48,6 +54,27 @@ pub sets_onto : (vs l : List ℕ) → length vs ≤ length l → sets l 0 vs ≡
 sets_onto vs l h =
     let z : 0 + length vs ≡ length vs = omega arith in
     sets-eq vs l 0 (omega arith) ∙ ap (λ (k : ℕ). vs ++ drop k l) z
+
+-- what a part of a list holds after all that fits it was copied there: j is the place, or the end, and k is how many fit
+pub part_set : (vs l : List ℕ) (i j k : ℕ) → j ≡ min i (length l) → k ≡ min (length vs) (length l - j) → take j l ++ (take k vs ++ drop k (drop j l)) ≡ sets l i vs
+part_set vs l i j k ej ek = sym cut ∙ whole ∙ clamped (dec_le i (length l))
+  where
+    front : length (take k vs) ≡ k
+    front = length-take-le k vs (omega arith)
+
+    cut : sets l j (take k vs) ≡ take j l ++ (take k vs ++ drop k (drop j l))
+    cut = sets-eq (take k vs) l j (omega (arith, front)) ∙ append_assoc (take j l) (take k vs) (drop (j + length (take k vs)) l) ∙ ap (λ (m : List ℕ). take j l ++ (take k vs ++ m)) (ap (λ (x : ℕ). drop (j + x) l) front ∙ sym (drop-drop k j l))
+
+    -- what does not fit falls past the end
+    whole : sets l j (take k vs) ≡ sets l j vs
+    whole =
+        sym (sets_none (drop k vs) (sets l j (take k vs)) (j + k) (λ more. omega (arith, length-drop k vs, sets_length (take k vs) l j)))
+        ∙ ap (λ (x : ℕ). sets (sets l j (take k vs)) (j + x) (drop k vs)) (sym front)
+        ∙ sets_join (take k vs) (drop k vs) l j ∙ ap (sets l j) (take-append-drop k vs)
+
+    clamped : Dec (i ≤ length l) → sets l j vs ≡ sets l i vs
+    clamped (yes h) = let e : j ≡ i = omega arith in ap (λ (x : ℕ). sets l x vs) e
+    clamped (no h) = sets_out vs l j (omega arith) ∙ sym (sets_out vs l i (omega arith))
 
 -- two stores
 pub two_stores : (l a b : List ℕ) (k x y : ℕ) → a ≡ set l k x → b ≡ set a (k + 1) y → b ≡ sets l k (x ∷ y ∷ [])

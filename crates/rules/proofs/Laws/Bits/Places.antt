@@ -5,10 +5,10 @@ use Rattle.std.proofs.Math.Bool.{and-true}
 use Rattle.std.proofs.Common.{ap, sym, ◌∙◌, ap₂, suc-mul, div-one, div-add-mod', mod-lt, add-one, arith, lt-ltb, length-drop, length-take, pow_mono, shr-shr, drop-cons, drop-drop, get_or-append-add}
 use Rattle.std.proofs.Math.ListN.{get_or-append}
 use Rattle.std.proofs.lemmas.List.Edits.{sets}
-use Rattle.std.proofs.Math.Seq.{set_out}
 use Rattle.rules.specs.Basics.{Under}
 use Rattle.rules.specs.Bits.{bit, bits_value, digits, pack, lanes, clear}
 use Rattle.rules.proofs.Laws.Bits.{value_digits, length_digits, length_pack, length_lanes, bits_value_lt}
+use Rattle.rules.proofs.Laws.Places.{sets_none}
 use Rattle.rules.specs.Bits.Places.{gathered, stored}
 
 -- ---- which bit of which word
@@ -104,18 +104,12 @@ stored_step w k v at j out x h e =
     let c : k - j ≡ suc (k - (j + 1)) = omega arith in
     rw (a, b, c, e, drop-drop)
 
-past : (out : List ℕ) (i : ℕ) (vs : List ℕ) → (0 < length vs → length out ≤ i) → sets out i vs ≡ out
-past out i [] h = refl
-past out i (v ∷ vs) h =
-    let l : length out ≤ i = h (omega arith) in
-    rw (set_out out i v l) (past out (suc i) vs (λ p. omega arith))
-
 -- after the last word, or the last place, nothing is left to store
 pub stored_none : (w k : ℕ) (v : List Bool) (at j : ℕ) (out : List ℕ) → min k (length out - at) ≤ j → stored w k v at j out ≡ out
 unfolding stored
 stored_none w k v at j out h =
     let l = drop (j * w) v in
-    past out (at + j) (pack w (k - j) l) (λ p. omega (arith, length_pack w (k - j) l))
+    sets_none (pack w (k - j) l) out (at + j) (λ p. omega (arith, length_pack w (k - j) l))
 
 -- ---- bits past n
 
