@@ -104,15 +104,6 @@ pub fn write(value: Halves) -> Encoded
     }
 }
 
-// Puts bytes from `at` on, as far as there is room.
-fn put_bytes(bytes: &[u8], out: &mut [u8], at: usize)
-    ensures { out.new ≡ sets out.old at bytes.now }
-{
-    let at = at.min(out.len());
-    let n = bytes.len().min(out.len() - at);
-    out[at..at + n].copy_from_slice(&bytes[..n]);
-}
-
 // Puts the number's one encoding from `at` on, as far as there is room, and answers its length.
 pub fn put(value: Halves, out: &mut [u8], at: usize) -> usize
     ensures answers { result ≡ length (compact_bytes (whole value.low value.high)) }
@@ -120,6 +111,6 @@ pub fn put(value: Halves, out: &mut [u8], at: usize) -> usize
 {
     let encoded = write(value);
     let bytes = encoded.bytes;
-    put_bytes(&bytes[..encoded.len], out, at);
+    number::copy_at(out, at, &bytes[..encoded.len]);
     encoded.len
 }

@@ -1,13 +1,9 @@
 -- Cells that are stored one after another, and how many items go into a room.
-use Rattle.std.specs.Prelude.{Err}
-use mathlib.Core.List.{List, [], ◌∷◌}
-use mathlib.Core.Path.{◌≡◌, ap, ◌∙◌}
-use Prim.Native.Nat.{ℕ, zero, suc, ◌+◌, ◌-◌, ◌*◌, ◌/◌, ◌≤◌, ◌<◌}
-use native.Mathlib.Nat.{le-div_iff_mul-le, div-lt_iff_lt-mul, div-le_self}
-use native.Mathlib.Numerals.{add-one}
-use native.Mathlib.Omega.{arith}
-use lib.ListN.{set}
-use lib.Seq.{sets}
+use Rattle.std.specs.Prelude.{List, ◌++◌, ◌∷◌, ◌≡◌, refl, ℕ, zero, suc, ◌+◌, ◌-◌, ◌*◌, ◌/◌, ◌≤◌, ◌<◌, min, length, drop, take, Err}
+use Rattle.std.proofs.Common.{ap, sym, ◌∙◌, arith, le-div_iff_mul-le, div-lt_iff_lt-mul, div-le_self}
+use Rattle.std.proofs.lemmas.List.{length-replicate}
+use Rattle.std.proofs.lemmas.List.Edits.{sets}
+use Rattle.rules.proofs.Laws.Places.{part_set}
 use Rattle.rules.specs.Refusals.{room_at}
 use Rattle.rules.specs.Scan.Pass.{pass_none}
 use Rattle.rules.specs.Scan.Units.{zeros, units_at}
@@ -31,16 +27,16 @@ room_ends n m room z h =
     let e : room < (m + 1) * n = (div-lt_iff_lt-mul p).0 (omega arith) in
     omega arith
 
--- one zero more
-pub zeros_next : (n i : ℕ) (l : List ℕ) → 0 < n → sets (set l i 0) (i + 1) (zeros (n - 1)) ≡ sets l i (zeros n)
-zeros_next zero i l h = absurd (omega arith)
-zeros_next (suc n) i l h =
-    let e : suc n - 1 ≡ n = omega arith in
-    ap (λ (k : ℕ). sets (set l i 0) (i + 1) (zeros k)) e ∙ ap (λ (j : ℕ). sets (set l i 0) j (zeros n)) (add-one i)
-
--- two stores
-pub two_stores : (l a b : List ℕ) (k x y : ℕ) → a ≡ set l k x → b ≡ set a (k + 1) y → b ≡ sets l k (x ∷ y ∷ [])
-two_stores l a b k x y e f = f ∙ ap (λ (j : ℕ). set a j y) (add-one k) ∙ ap (λ (m : List ℕ). set m (suc k) y) e
+-- zeros that were filled in: j is the place, or the end, and k is how many go in
+pub zeros_filled : (n i j k : ℕ) (l : List ℕ) → j ≡ min i (length l) → k ≡ min n (length l - j) → take j l ++ (zeros k ++ drop k (drop j l)) ≡ sets l i (zeros n)
+zeros_filled n i j k l ej ek =
+    let z : take k (zeros n) ≡ zeros k = take_zeros k n (omega arith) in
+    ap (λ m. take j l ++ (m ++ drop k (drop j l))) (sym z) ∙ part_set (zeros n) l i j k ej (ek ∙ ap (λ x. min x (length l - j)) (sym (length-replicate n 0)))
+  where
+    take_zeros : (k n : ℕ) → k ≤ n → take k (zeros n) ≡ zeros k
+    take_zeros zero n h = refl
+    take_zeros (suc k) zero h = absurd (omega arith)
+    take_zeros (suc k) (suc n) h = ap (λ m. 0 ∷ m) (take_zeros k n (omega arith))
 
 -- units where the room is used up already
 pub units_full : (lim : Limits) (st : Totals) (at m : ℕ) → lim.cells < st.cells → units_at lim st at m ≡ pass_none (Err (room_at at))

@@ -2,12 +2,14 @@
 // Both take any count: what is not there is not read, and what falls past the end is not written.
 #![tactic(auto)]
 
+mod copy;
 mod wide;
 
 ghost use Rattle.std.specs.Prelude.{◌≡◌, min, take};
 ghost use Rattle.std.proofs.lemmas.List.Edits.{sets};
 ghost use Rattle.rules.specs.Bytes.{le_value, le_bytes};
 
+pub use copy::copy_at;
 pub use wide::{halves, put_halves};
 
 // The number that the first n bytes of t say, of eight at most: those that are not there are 0, as those above the n are.

@@ -7,21 +7,21 @@ use Rattle.std.proofs.Math.Seq.{set_out}
 use Rattle.std.proofs.lemmas.List.{set_comm}
 use Rattle.rules.specs.Basics.{onto}
 
-pub sets_out : (vs l : List ℕ) (i : ℕ) → length l ≤ i → sets l i vs ≡ l
+pub sets_out : {A : Type 0} (vs l : List A) (i : ℕ) → length l ≤ i → sets l i vs ≡ l
 sets_out [] l i h = refl
-sets_out (v ∷ vs) l i h = ap (λ (m : List ℕ). sets m (suc i) vs) (set_out l i v h) ∙ sets_out vs l (suc i) (omega arith)
+sets_out (v ∷ vs) l i h = ap (λ (m : List _). sets m (suc i) vs) (set_out l i v h) ∙ sets_out vs l (suc i) (omega arith)
 
 -- no elements, or a place past the end
-pub sets_none : (vs l : List ℕ) (i : ℕ) → (0 < length vs → length l ≤ i) → sets l i vs ≡ l
+pub sets_none : {A : Type 0} (vs l : List A) (i : ℕ) → (0 < length vs → length l ≤ i) → sets l i vs ≡ l
 sets_none [] l i h = refl
 sets_none (v ∷ vs) l i h = sets_out (v ∷ vs) l i (h (omega arith))
 
-pub sets_length : (vs l : List ℕ) (i : ℕ) → length (sets l i vs) ≡ length l
+pub sets_length : {A : Type 0} (vs l : List A) (i : ℕ) → length (sets l i vs) ≡ length l
 sets_length [] l i = refl
 sets_length (v ∷ vs) l i = sets_length vs (set l i v) (suc i) ∙ length-set l i v
 
 -- one list after another
-pub sets_join : (a b l : List ℕ) (i : ℕ) → sets (sets l i a) (i + length a) b ≡ sets l i (a ++ b)
+pub sets_join : {A : Type 0} (a b l : List A) (i : ℕ) → sets (sets l i a) (i + length a) b ≡ sets l i (a ++ b)
 sets_join [] b l i = ap (λ (j : ℕ). sets l j b) (add-zero i)
 sets_join (v ∷ a) b l i =
     let e : i + suc (length a) ≡ suc i + length a = omega arith in
@@ -56,14 +56,14 @@ sets_onto vs l h =
     sets-eq vs l 0 (omega arith) ∙ ap (λ (k : ℕ). vs ++ drop k l) z
 
 -- what a part of a list holds after all that fits it was copied there: j is the place, or the end, and k is how many fit
-pub part_set : (vs l : List ℕ) (i j k : ℕ) → j ≡ min i (length l) → k ≡ min (length vs) (length l - j) → take j l ++ (take k vs ++ drop k (drop j l)) ≡ sets l i vs
+pub part_set : {A : Type 0} (vs l : List A) (i j k : ℕ) → j ≡ min i (length l) → k ≡ min (length vs) (length l - j) → take j l ++ (take k vs ++ drop k (drop j l)) ≡ sets l i vs
 part_set vs l i j k ej ek = sym cut ∙ whole ∙ clamped (dec_le i (length l))
   where
     front : length (take k vs) ≡ k
     front = length-take-le k vs (omega arith)
 
     cut : sets l j (take k vs) ≡ take j l ++ (take k vs ++ drop k (drop j l))
-    cut = sets-eq (take k vs) l j (omega (arith, front)) ∙ append_assoc (take j l) (take k vs) (drop (j + length (take k vs)) l) ∙ ap (λ (m : List ℕ). take j l ++ (take k vs ++ m)) (ap (λ (x : ℕ). drop (j + x) l) front ∙ sym (drop-drop k j l))
+    cut = sets-eq (take k vs) l j (omega (arith, front)) ∙ append_assoc (take j l) (take k vs) (drop (j + length (take k vs)) l) ∙ ap (λ m. take j l ++ (take k vs ++ m)) (ap (λ (x : ℕ). drop (j + x) l) front ∙ sym (drop-drop k j l))
 
     -- what does not fit falls past the end
     whole : sets l j (take k vs) ≡ sets l j vs

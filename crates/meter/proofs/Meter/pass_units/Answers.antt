@@ -1,30 +1,27 @@
-use mathlib.Core.List.{[]}
-use mathlib.Core.Path.{◌≡◌, refl, ap, sym, ◌∙◌}
-use Prim.Native.Nat.{◌+◌, ◌-◌, ◌*◌}
-use native.Mathlib.Omega.{arith}
+use Rattle.std.proofs.Common.{[], ◌≡◌, refl, ap, sym, ◌∙◌, ◌+◌, ◌-◌, ◌*◌, arith}
 use Rattle.rules.proofs.Laws.Scan.Landing.{stops, lands}
 use Rattle.rules.specs.Scan.Units.{zeros, units_at}
 use Rattle.rules.proofs.Laws.Scan.Units.{units_fit, units_stop, units_none}
 use Rattle.meter.proofs.Stores.{room_holds, room_one, room_ends, units_full}
-use Rattle.meter.proofs.pass_units.Goals as goal
+use Rattle.meter.proofs.Meter.pass_units.Goals as goal
 
-pub returns-then-m-t : goal.returns-then-m-t
-returns-then-m-t c =
-    let both = stops _ _ _ _ _ (units_full _ _ _ _ c.if-m-t.true) c.refused.ensures in
+pub returns-then-self-t : goal.returns-then-self-t
+returns-then-self-t c =
+    let both = stops _ _ _ _ _ (units_full _ _ _ _ c.if-self-t.true) c.refuse.ensures in
     record { answers = both.0; writes = both.1 }
 
 pub returns-then-n-eq0 : goal.returns-then-n-eq0
 returns-then-n-eq0 c =
     let z : c.args.n * (c.args.more + 1) ≡ 0 = rw c.if-n-eq0.true (omega arith) in
-    let both = lands _ _ _ [] _ _ _ (ap (units_at _ _ _) z ∙ sym (units_none _ _ _ (omega (arith, c.if-m-t.false)))) refl refl in
+    let both = lands _ _ _ [] _ _ _ (ap (units_at _ _ _) z ∙ sym (units_none _ _ _ (omega (arith, c.if-self-t.false)))) refl refl in
     record { answers = both.0; writes = both.1 }
 
 pub returns-then-left-n : goal.returns-then-left-n
 returns-then-left-n c =
     let start = c.args in
     let full = room_ends start.n start.more c.room-left.result c.if-n-eq0.false c.if-left-n.true in
-    let both = lands _ _ _ (zeros (start.m.limits.cells - start.m.totals.cells)) _ _ _
-    (units_stop _ _ _ _ (omega (arith, full, c.if-m-t.false, c.room-left.ensures))) c.refused-then-left-n.ensures
+    let both = lands _ _ _ (zeros (start.self.limits.cells - start.self.totals.cells)) _ _ _
+    (units_stop _ _ _ _ (omega (arith, full, c.if-self-t.false, c.room-left.ensures))) c.refuse-then-left-n.ensures
     (rw c.room-left.ensures at c.store_zeros.ensures) in
     record { answers = both.0; writes = both.1 }
 
@@ -35,13 +32,13 @@ pub overflow_mul-all : goal.overflow_mul-all
 overflow_mul-all c = omega (arith, room_holds c.args.n c.args.more c.room-left.result c.if-n-eq0.false c.if-left-n.false, c.room-left.ensures)
 
 pub overflow_add-result : goal.overflow_add-result
-overflow_add-result c = omega (arith, room_holds c.args.n c.args.more c.room-left.result c.if-n-eq0.false c.if-left-n.false, c.room-left.ensures, c.if-m-t.false)
+overflow_add-result c = omega (arith, room_holds c.args.n c.args.more c.room-left.result c.if-n-eq0.false c.if-left-n.false, c.room-left.ensures, c.if-self-t.false)
 
 pub returns : goal.returns
 returns c =
     let start = c.args in
     let fits = room_holds start.n start.more c.room-left.result c.if-n-eq0.false c.if-left-n.false in
     let both = lands _ _ _ (zeros (start.n * (start.more + 1))) _ _ _
-    (units_fit _ _ _ _ (omega (arith, fits, c.room-left.ensures, c.if-m-t.false))) refl
+    (units_fit _ _ _ _ (omega (arith, fits, c.room-left.ensures, c.if-self-t.false))) refl
     c.store_zeros-2.ensures in
     record { answers = both.0; writes = both.1 }
