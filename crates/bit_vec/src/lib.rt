@@ -10,22 +10,8 @@ ghost use Rattle.bit_vec.specs.Moves.{bits_read, cells_read, bits_written, bytes
 
 mod word;
 
-use rules::Refusal;
+use rules::{Answer, Reason, refuse};
 use word::Word;
-
-// What writing bits answers: how many bytes they take, or that the cells which should hold them are not all there.
-#[derive(Clone, Copy)]
-pub enum Lanes {
-    Bytes(usize),
-    Short,
-}
-
-// What reading bits answers: how many bytes they took, or why they are refused.
-#[derive(Clone, Copy)]
-pub enum Moved {
-    Took(usize),
-    Refused(Refusal),
-}
 
 // One bit of a word, counted from the lowest.
 fn bit(word: u64, place: usize) -> u64
@@ -62,35 +48,34 @@ fn store<F: Word, T: Word>(n: usize, from: &[F], to: &mut [T], at: usize)
     }
 }
 
-// Reads n bits of a bit vector that starts at offset `start` from the front of s into the cells from a place on. If they are refused, the cells stay.
-pub fn read(n: u64, start: usize, s: &[u8], cells: &mut [u64], at: usize) -> Moved
+// Reads n bits of a bit vector that starts at offset `start` from the front of s into the cells from a place on: how many bytes they took. If they are refused, the
+// cells stay.
+pub fn read(n: u64, start: usize, s: &[u8], cells: &mut [u64], at: usize) -> Answer<usize>
     ensures answers { result ≡ bits_read n start s.now }
     ensures writes { cells.new ≡ cells_read n start s.now cells.old at }
 {
     let n = n as usize;
     let used = n.div_ceil(8);
     if s.len() < used {
-        return Moved::Refused(Refusal {
-            number: rules::SHORT,
-            place: start,
-        });
+        return refuse(Reason::Short, start);
     }
     store(n, &s[..used], cells, at);
-    Moved::Took(used)
+    Ok(used)
 }
 
-// Writes n bits from the front of a list of cells into the output from a place on. If their cells are not all there, the output stays.
-pub fn write(n: u64, cells: &[u64], out: &mut [u8], at: usize) -> Lanes
+// Writes n bits from the front of a list of cells into the output from a place on: how many bytes they take. If their cells are not all there, it is None, and the
+// output stays.
+pub fn write(n: u64, cells: &[u64], out: &mut [u8], at: usize) -> Option<usize>
     ensures answers { result ≡ bits_written n cells.now }
     ensures writes { out.new ≡ bytes_written n cells.now out.old at }
 {
     let n = n as usize;
     let used = n.div_ceil(64);
     if cells.len() < used {
-        return Lanes::Short;
+        return None;
     }
     store(n, &cells[..used], out, at);
-    Lanes::Bytes(n.div_ceil(8))
+    Some(n.div_ceil(8))
 }
 
 // Whether no bit past n is set in the cells that hold n bits, of which some may be missing. Only the cell that n ends in has bits past n.

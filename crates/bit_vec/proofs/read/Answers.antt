@@ -11,7 +11,7 @@ pub returns-then-s-used : goal.returns-then-s-used
 unfolding bits_read cells_read lanes_from
 returns-then-s-used c =
     let a = c.args in
-    rw (whole_short (words8 a.n) _ a.s.now (lanes_in a.n a.start) (omega arith)) (record { answers = refl; writes = refl })
+    rw (whole_short (words8 a.n) _ a.s.now (lanes_in a.n a.start) (omega arith)) (record { answers = c.refuse.ensures; writes = refl })
 
 pub returns : goal.returns
 unfolding bits_read cells_read lanes_from lanes_in

@@ -1,7 +1,7 @@
 -- `bit_vec::write` meets its contract: the cells that are handed on are as many as the bits ask. Assumes nothing.
 use Rattle.std.proofs.Common.{◌≡◌, refl, ap, length, arith, lt-ltb, le-ltb}
 use Rattle.rules.specs.Bits.{words64}
-use Rattle.bit_vec.specs.declared.Lanes.TheVariants.{Bytes}
+use Rattle.std.specs.Prelude.{Some}
 use Rattle.bit_vec.specs.Moves.{bits_written, bytes_written}
 use Rattle.bit_vec.proofs.Words.{numbers_stored}
 use Rattle.bit_vec.proofs.write.Goals as goal
@@ -18,4 +18,4 @@ returns c =
     let a = c.args in
     let used : c.div_ceil-used.result ≡ words64 a.n = omega arith in
     rw (le-ltb (length a.cells.now) (words64 a.n) (omega arith), ← used)
-    (record { answers = ap Bytes (omega arith); writes = numbers_stored 64 8 a.n _ _ a.at _ _ _ (omega arith) c.store.ensures })
+    (record { answers = ap Some (omega arith); writes = numbers_stored 64 8 a.n _ _ a.at _ _ _ (omega arith) c.store.ensures })
