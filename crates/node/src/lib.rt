@@ -8,10 +8,10 @@ ghost use Rattle.node.specs.Nodes.{width_named, leaf_named};
 use rules::{Leaf, Node, Width};
 
 // A 16-bit number, little-endian.
-fn word(low: u8, high: u8) -> usize
+fn word(low: u8, high: u8) -> u16
     ensures { result ≡ low + 256 * high }
 {
-    low as usize + 256 * high as usize
+    low as u16 + 256 * high as u16
 }
 
 // The width of `a` bytes, if there is one.
@@ -50,7 +50,7 @@ fn float_of(a: usize) -> Node
 }
 
 // Kind 9: an array of `n` items of node `a`, at least one.
-fn array_of(n: usize, a: usize) -> Node
+fn array_of(n: u16, a: usize) -> Node
     ensures { result ≡ node_of 9 a n }
 {
     if n == 0 {
@@ -68,9 +68,10 @@ fn unused(number: usize, node: Node) -> Node
 }
 
 // What a kind says with its a and b.
-fn node_of(kind: u8, a: usize, b: usize) -> Node
-    ensures { result ≡ node_of kind a b }
+fn node_of(kind: u8, a: usize, n: u16) -> Node
+    ensures { result ≡ node_of kind a n }
 {
+    let b = n as usize;
     match kind {
         0 => unused(a, unused(b, Node::Leaf(Leaf::Unit))),
         1 => unused(a, unused(b, Node::Leaf(Leaf::Bool))),
@@ -81,7 +82,7 @@ fn node_of(kind: u8, a: usize, b: usize) -> Node
         6 => unused(b, Node::Option(a)),
         7 => Node::Result(a, b),
         8 => Node::Pair(a, b),
-        9 => array_of(b, a),
+        9 => array_of(n, a),
         10 => unused(b, Node::Vector(a)),
         11 => unused(a, unused(b, Node::Bits)),
         _ => Node::Unknown,

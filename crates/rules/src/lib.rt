@@ -33,7 +33,7 @@ pub enum Node {
     Option(usize),
     Result(usize, usize),
     Pair(usize, usize),
-    Array(usize, usize),
+    Array(u16, usize),
     Vector(usize),
     Bits,
     Unknown,

@@ -1,13 +1,16 @@
 // The check of a type table, and with it the footprint of each node.
 #![tactic(auto)]
 
-ghost use Rattle.std.specs.Prelude.{◌≡◌, ◌≤◌, ◌^◌, length, get_or};
+ghost use Rattle.std.specs.Prelude.{◌≡◌, Err, MatchResult, ◌≤◌, ◌^◌, length, get_or};
 ghost use Rattle.rules.specs.Basics.{Under};
 ghost use Rattle.rules.specs.Totals.{leaf_foot};
 ghost use Rattle.rules.specs.Table.{marked, sized, fine, head_check, allowed, check_table, footprints_of};
-ghost use Rattle.table.specs.Nodes.{Counted, foot_over};
+ghost use Rattle.table.specs.Nodes.{foot_over};
+
+mod sound;
 
 use rules::{Answer, Leaf, Node, Reason, refuse};
+pub use sound::Checked;
 
 // ---- the check
 
@@ -98,7 +101,7 @@ fn leaf_footprint(leaf: Leaf) -> u64
 // The footprint of a node, from those of its children, which stand in `feet`.
 #[tactic(auto, using(crate::specs::Laws::product_fits), unfolding(crate::specs::Nodes::foot_over))]
 fn footprint_of(node: Node, feet: &[u64]) -> u64
-    requires { Under (2 ^ 31) feet.now × Counted 65535 node }
+    requires { Under (2 ^ 31) feet.now }
     ensures { result ≡ foot_over (λ j. get_or feet.now j 0) node }
 {
     match node {
@@ -147,4 +150,12 @@ pub fn check(table: &[u8]) -> Answer<()>
 {
     footprints(table)?;
     Ok(())
+}
+
+// The table with its footprints, if its check refuses nothing.
+pub fn checked(table: &[u8]) -> Answer<Checked<'_>>
+    ensures { MatchResult result (λ c. c.table.now ≡ table.now) (λ y. check_table table.now ≡ Err y) }
+{
+    let feet = footprints(table)?;
+    Ok(Checked { table, feet })
 }

@@ -1,7 +1,6 @@
 -- Laws of the loop that fills an array with longest lengths.
 use Rattle.std.specs.Prelude.{List, ◌≡◌, ℕ, ◌-◌, ◌≤◌, ◌<◌, get_or, Option, None}
 use Rattle.std.proofs.Common.{ap, sym, ◌∙◌, arith}
-use Rattle.rules.specs.Types.{Ty}
 use Rattle.rules.specs.Totals.{longest}
 use Rattle.rules.specs.Table.{count, node_at, ty_at, root}
 use Rattle.rules.specs.Table.Laws.{Good}

@@ -5,11 +5,10 @@ ghost use Rattle.std.specs.Prelude.{◌≡◌, ◌+◌, ◌-◌, ◌*◌, ◌≤
 ghost use Rattle.rules.specs.Basics.{pick};
 ghost use Rattle.rules.specs.Totals.{leaf_longest, join, foot, longest as longest_length};
 ghost use Rattle.rules.specs.Table.{check_table, fine, numbers_of, unit_code, units_of, longest_of, root};
-ghost use Rattle.table.specs.Nodes.{Counted};
 ghost use Rattle.totals.specs.Nodes.{longest_over, Short, AllShort, behind_tag, kept, units_over};
 
 use rules::{Answer, Leaf, Node};
-use table::found_at;
+use table::{Checked, found_at};
 
 // ---- longest lengths
 
@@ -44,16 +43,17 @@ fn sum(x: Option<u64>, y: Option<u64>) -> Option<u64>
 }
 
 // `n` times the same, if it has a longest length.
-fn times(n: usize, x: Option<u64>) -> Option<u64>
-    requires { (n ≤ 65535) × Short x }
+fn times(n: u16, x: Option<u64>) -> Option<u64>
+    requires { Short x }
     ensures { result ≡ join ◌*◌ (Some n) x }
 {
     Some(n as u64 * x?)
 }
 
 // The longest length of a node, from those of its children, which stand in `lengths`.
+#[tactic(auto, unfolding(crate::specs::Nodes::longest_over))]
 fn longest_of(node: Node, lengths: &[Option<u64>]) -> Option<u64>
-    requires { AllShort lengths.now × Counted 65535 node }
+    requires { AllShort lengths.now }
     ensures { result ≡ longest_over (λ j. get_or lengths.now j None) node }
 {
     match node {
@@ -68,25 +68,23 @@ fn longest_of(node: Node, lengths: &[Option<u64>]) -> Option<u64>
     }
 }
 
-// The root's longest length, in a table that was checked: rising, so that each node's children come before it.
-fn measure(table: &[u8]) -> Option<u64>
-    requires { check_table table.now ≡ fine }
-    ensures { result ≡ longest_length (root table.now) }
+// The root's longest length: the nodes rising, so that each node's children come before it.
+fn measure(checked: &Checked) -> Option<u64>
+    ensures { result ≡ longest_length (root checked.now.table.now) }
 {
-    let n = table[5] as usize;
     let mut lengths = [None; 64];
-    for i in 0..n {
-        lengths[i] = longest_of(node::node_at(table, i), &lengths);
+    for i in 0..checked.count() {
+        lengths[i] = longest_of(node::node_at(checked.table, i), &lengths);
     }
-    lengths[n - 1]
+    lengths[checked.root()]
 }
 
 // The longest length of the table's root, if it has one.
 pub fn longest(table: &[u8]) -> Answer<Option<u64>>
     ensures { result ≡ longest_of table.now }
 {
-    table::check(table)?;
-    Ok(measure(table))
+    let checked = table::checked(table)?;
+    Ok(measure(&checked))
 }
 
 // ---- units
@@ -99,16 +97,17 @@ fn pair_units(x: u64, y: u64) -> u64
 }
 
 // The units of an array past its first, from those of an item.
-fn array_units(n: usize, x: u64) -> u64
-    requires { 1 ≤ n }
+fn array_units(n: u16, x: u64) -> u64
     ensures { result ≡ kept (n * x + (n - 1)) }
 {
-    (n as u64).saturating_mul(x).saturating_add(n as u64 - 1)
+    (n as u64)
+        .saturating_mul(x)
+        .saturating_add((n as u64).saturating_sub(1))
 }
 
 // The units of a node past its first, if its footprint is 0, from those of its children, which stand in `units`.
+#[tactic(auto, unfolding(crate::specs::Nodes::units_over))]
 fn units_of(foot: u64, node: Node, units: &[u64]) -> u64
-    requires { Counted 65535 node }
     ensures { result ≡ pick (eqb foot 0) (units_over (λ j. get_or units.now j 0) node) 0 }
 {
     if foot != 0 {
@@ -117,28 +116,32 @@ fn units_of(foot: u64, node: Node, units: &[u64]) -> u64
     match node {
         Node::Pair(a, b) => pair_units(found_at(units, a, 0), found_at(units, b, 0)),
         Node::Array(n, a) => array_units(n, found_at(units, a, 0)),
-        _ => 0,
+        Node::Leaf(_) => 0,
+        Node::Option(_) => 0,
+        Node::Result(_, _) => 0,
+        Node::Vector(_) => 0,
+        Node::Bits => 0,
+        Node::Unknown => 0,
     }
 }
 
-// The units of each node past its first, in a table that was checked and has the footprints `feet`.
-fn count_units(table: &[u8], feet: &[u64]) -> [u64; 64]
-    requires { (check_table table.now ≡ fine) × (feet.now ≡ numbers_of foot table.now) }
-    ensures { result ≡ numbers_of unit_code table.now }
+// For each node of footprint 0 one less than the number of its cells, or the largest number where that is larger; 0 for other nodes.
+pub fn count_units(checked: &Checked) -> [u64; 64]
+    ensures { result ≡ numbers_of unit_code checked.now.table.now }
 {
     let mut units = [0u64; 64];
-    for i in 0..table[5] as usize {
-        units[i] = units_of(found_at(feet, i, 0), node::node_at(table, i), &units);
+    for i in 0..checked.count() {
+        units[i] = units_of(checked.feet[i], node::node_at(checked.table, i), &units);
     }
     units
 }
 
-// For each node of footprint 0 one less than the number of its cells, or the largest number where that is larger; 0 for other nodes, and for all of a refused table.
+// The same, and 0 for all nodes of a refused table.
 pub fn units(table: &[u8]) -> [u64; 64]
     ensures { result ≡ units_of table.now }
 {
-    match table::footprints(table) {
-        Ok(feet) => count_units(table, &feet),
+    match table::checked(table) {
+        Ok(checked) => count_units(&checked),
         Err(_) => [0u64; 64],
     }
 }

@@ -19,15 +19,15 @@ returns-in-2 c = rw c.in-2.is (c.unused-in-2-2.ensures ∙ ap (if_unused c.args.
 
 pub returns-in-3 : goal.returns-in-3
 unfolding node_of
-returns-in-3 c = rw c.in-3.is (c.unused-in-3.ensures ∙ ap (if_unused c.args.b) (leaf_mapped _ _ _ _ _ c.width_of.ensures c.map.ensures.cases c.leaf_of.ensures))
+returns-in-3 c = rw c.in-3.is (c.unused-in-3.ensures ∙ ap (if_unused c.args.n) (leaf_mapped _ _ _ _ _ c.width_of.ensures c.map.ensures.cases c.leaf_of.ensures))
 
 pub returns-in-4 : goal.returns-in-4
 unfolding node_of
-returns-in-4 c = rw c.in-4.is (c.unused-in-4.ensures ∙ ap (if_unused c.args.b) (leaf_mapped _ _ _ _ _ c.width_of-in-4.ensures c.map-in-4.ensures.cases c.leaf_of-in-4.ensures))
+returns-in-4 c = rw c.in-4.is (c.unused-in-4.ensures ∙ ap (if_unused c.args.n) (leaf_mapped _ _ _ _ _ c.width_of-in-4.ensures c.map-in-4.ensures.cases c.leaf_of-in-4.ensures))
 
 pub returns-in-5 : goal.returns-in-5
 unfolding node_of
-returns-in-5 c = rw c.in-5.is (c.unused-in-5.ensures ∙ ap (if_unused c.args.b) c.float_of.ensures)
+returns-in-5 c = rw c.in-5.is (c.unused-in-5.ensures ∙ ap (if_unused c.args.n) c.float_of.ensures)
 
 pub returns-in-6 : goal.returns-in-6
 unfolding node_of

@@ -9,7 +9,6 @@ use Rattle.rules.specs.Table.{node_at, ty_at, allowed}
 use Rattle.rules.proofs.Laws.Table.{head_fine}
 use Rattle.node.specs.Laws.{node_in_lem}
 use Rattle.table.specs.Nodes.{foot_over}
-use Rattle.table.specs.Laws.{counted_in}
 use Rattle.table.specs.Filling.{weighing_none, weighing_small, weighing_all, weighing_wrong, weighed, weighing_large, weighing_more}
 use Rattle.table.proofs.weigh.Goals as goal
 use Rattle.table.proofs.weigh.Goals.{In-loop-i, After-allowed_at, After-footprint_of-foot}
@@ -47,7 +46,7 @@ pub slice_bounds-footprint_of-end : goal.slice_bounds-footprint_of-end
 slice_bounds-footprint_of-end c = sym c.loop-i.invariant.feet.size
 
 pub footprint_of-foot-requires : goal.footprint_of-foot-requires
-footprint_of-foot-requires c = (weighing_small _ c.requires _ _ c.loop-i.invariant, rw c.node_at-node.ensures (counted_in c.args.table.now (λ k. (c.type_inv.table k).fits) _))
+footprint_of-foot-requires c = weighing_small _ c.requires _ _ c.loop-i.invariant
 
 pub returns-then-foot-gt-MAX_FOOTPRINT : goal.returns-then-foot-gt-MAX_FOOTPRINT
 returns-then-foot-gt-MAX_FOOTPRINT c =

@@ -4,4 +4,4 @@ use Rattle.table.specs.Filling.{Measuring}
 use Rattle.totals.proofs.count_units.Given as goal
 
 abbrev pub invariant-loop-i : goal.invariant-loop-i
-invariant-loop-i l = Measuring 0 unit_code l.table l.i l.units
+invariant-loop-i l = Measuring 0 unit_code l.checked.table.now l.i l.units

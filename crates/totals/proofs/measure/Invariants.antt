@@ -5,4 +5,4 @@ use Rattle.rules.specs.Totals.{longest}
 use Rattle.totals.proofs.measure.Given as goal
 
 abbrev pub invariant-loop-i : goal.invariant-loop-i
-invariant-loop-i l = Measuring None longest l.table l.i l.lengths
+invariant-loop-i l = Measuring None longest l.checked.table.now l.i l.lengths
