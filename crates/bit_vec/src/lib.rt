@@ -23,7 +23,8 @@ fn bit(word: u64, place: usize) -> u64
 
 // Word j of the n bits in `from`, gathered from its last bit to its first, so that each bit doubles what came before it.
 fn word_of<F: Word, T: Word>(n: usize, from: &[F], j: usize) -> T
-    requires { (n ≤ length from.now * F.BITS) × (j * T.BITS < n) }
+    requires all_there { n ≤ length from.now * F.BITS }
+    requires begun { j * T.BITS < n }
     ensures { T.value result ≡ bits_value (take T.BITS (drop (j * T.BITS) (lanes F.BITS n (map F.value from.now)))) }
 {
     let first = j * T::BITS;

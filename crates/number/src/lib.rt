@@ -12,7 +12,7 @@ ghost use Rattle.rules.specs.Bytes.{le_value, le_bytes};
 pub use copy::copy_at;
 pub use wide::{halves, put_halves};
 
-// The number that the first n bytes of t say, of eight at most: those that are not there are 0, as those above the n are.
+// The number that the first n bytes of t say, of eight at most. A byte that is not there, or not asked for, counts as 0.
 pub fn word(t: &[u8], n: usize) -> u64
     ensures { result ≡ le_value (take (min n 8) t.now) }
 {
@@ -22,7 +22,7 @@ pub fn word(t: &[u8], n: usize) -> u64
     u64::from_le_bytes(bytes)
 }
 
-// Writes the lowest n bytes of x from place `at` on.
+// Writes the lowest n bytes of x from place `at` on. (n may be more than the eight that x has: the others are 0.)
 pub fn put(out: &mut [u8], at: usize, x: u64, n: usize)
     ensures { out.new ≡ sets out.old at (le_bytes n x) }
 {
