@@ -15,6 +15,7 @@ fn word(low: u8, high: u8) -> u16
 }
 
 // The width of `a` bytes, if there is one.
+#[tactic(auto, unfolding(crate::specs::Nodes::width_named))]
 pub fn width_of(a: usize) -> Option<Width>
     ensures { result ≡ width_named a }
 {
@@ -50,6 +51,7 @@ fn float_of(a: usize) -> Node
 }
 
 // Kind 9: an array of `n` items of node `a`, at least one.
+#[tactic(auto, unfolding(rules::specs::Table::node_of))]
 fn array_of(n: u16, a: usize) -> Node
     ensures { result ≡ node_of 9 a n }
 {

@@ -1,14 +1,8 @@
 -- `compact::read` meets its contract: a slice that is not empty is its first byte and `&s[1..]`. Assumes nothing.
-use Rattle.std.proofs.Common.{ℕ, List, ap, ◌∙◌}
-use Rattle.rules.specs.Types.{size}
-use Rattle.rules.specs.Compact.{compact_from}
+use Rattle.std.proofs.Common.{ap}
 use Rattle.rules.proofs.Laws.Compact.Answers.{at_none}
-use Rattle.rules.proofs.Laws.Places.{part_cons}
 use Rattle.compact.specs.Halves.{in_halves}
 use Rattle.compact.proofs.read.Goals as goal
 
 pub returns-then-s-eq0 : goal.returns-then-s-eq0
 returns-then-s-eq0 c = ap in_halves (at_none _ _ c.if-s-eq0.true)
-
-pub returns : goal.returns
-returns c = c.read_from.ensures ∙ ap (λ (l : List ℕ). in_halves (compact_from (size c.args.width) l)) (part_cons _ c.if-s-eq0.false)

@@ -41,10 +41,6 @@ pub returns-in-8 : goal.returns-in-8
 unfolding node_of
 returns-in-8 c = rw c.in-8.is
 
-pub returns-in-9 : goal.returns-in-9
-unfolding node_of
-returns-in-9 c = rw c.in-9.is c.array_of.ensures
-
 pub returns-in-10 : goal.returns-in-10
 unfolding node_of
 returns-in-10 c = rw c.in-10.is c.unused-in-10.ensures

@@ -5,9 +5,6 @@ use Rattle.rules.proofs.Laws.Table.{check_head}
 use Rattle.table.specs.Filling.{refused_feet}
 use Rattle.table.proofs.footprints.Goals as goal
 
-pub weigh-requires : goal.weigh-requires
-weigh-requires c = sym c.check_head.ensures ∙ c.in_ok-check_head.was
-
 pub returns-in_err-check_head : goal.returns-in_err-check_head
 returns-in_err-check_head c =
     handed_on _ _ c.from_residual.ensures.1 ∙ sym (refused_feet _ _ (check_head _ _ (sym c.check_head.ensures ∙ c.in_err-check_head.was)))

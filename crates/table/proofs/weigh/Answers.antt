@@ -9,7 +9,7 @@ use Rattle.rules.specs.Table.{node_at, ty_at, allowed}
 use Rattle.rules.proofs.Laws.Table.{head_fine}
 use Rattle.node.specs.Laws.{node_in_lem}
 use Rattle.table.specs.Nodes.{foot_over}
-use Rattle.table.specs.Filling.{weighing_none, weighing_small, weighing_all, weighing_wrong, weighed, weighing_large, weighing_more}
+use Rattle.table.specs.Filling.{weighing_none, weighing_all, weighing_wrong, weighed, weighing_large, weighing_more}
 use Rattle.table.proofs.weigh.Goals as goal
 use Rattle.table.proofs.weigh.Goals.{In-loop-i, After-allowed_at, After-footprint_of-foot}
 
@@ -42,12 +42,6 @@ returns-then-not-allowed_at c =
     c.refuse.ensures
     ∙ sym (weighing_wrong _ c.requires _ _ c.loop-i.invariant c.loop-i-test.true (sym said ∙ c.if-not-allowed_at.true))
 
-pub slice_bounds-footprint_of-end : goal.slice_bounds-footprint_of-end
-slice_bounds-footprint_of-end c = sym c.loop-i.invariant.feet.size
-
-pub footprint_of-foot-requires : goal.footprint_of-foot-requires
-footprint_of-foot-requires c = weighing_small _ c.requires _ _ c.loop-i.invariant
-
 pub returns-then-foot-gt-MAX_FOOTPRINT : goal.returns-then-foot-gt-MAX_FOOTPRINT
 returns-then-foot-gt-MAX_FOOTPRINT c =
     let at = goal.at.returns-then-foot-gt-MAX_FOOTPRINT c in
@@ -55,9 +49,6 @@ returns-then-foot-gt-MAX_FOOTPRINT c =
     let good = sym said.1 ∙ c.if-not-allowed_at.false in
     c.refuse-then-foot-gt-MAX_FOOTPRINT.ensures
     ∙ sym (weighing_large _ c.requires _ _ c.loop-i.invariant c.loop-i-test.true good _ (weight at.After-footprint_of-foot said.0 good) c.if-foot-gt-MAX_FOOTPRINT.true)
-
-pub offset_bounds-feet-i : goal.offset_bounds-feet-i
-offset_bounds-feet-i c = omega (arith, room (goal.at.offset_bounds-feet-i c).In-loop-i)
 
 pub bounds-feet-i : goal.bounds-feet-i
 bounds-feet-i c = room (goal.at.bounds-feet-i c).In-loop-i

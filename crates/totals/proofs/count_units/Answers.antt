@@ -1,5 +1,5 @@
 -- `count_units` meets its contract: the numbers of the nodes so far stand in `units`. Assumes nothing.
-use Rattle.std.proofs.Common.{◌≡◌, ◌<◌, ap, ap₂, sym, ◌∙◌, arith, get_or, eqb}
+use Rattle.std.proofs.Common.{◌≡◌, ◌<◌, ap, ap₂, ◌∙◌, arith, get_or, eqb}
 use Rattle.rules.specs.Basics.{pick}
 use Rattle.rules.specs.Totals.{foot}
 use Rattle.rules.specs.Table.{count, node_at, ty_at}
@@ -13,9 +13,6 @@ use Rattle.totals.proofs.count_units.Goals as goal
 
 pub loop-i-init : goal.loop-i-init
 loop-i-init c = measuring_none _ _ _
-
-pub slice_bounds-units_of-end : goal.slice_bounds-units_of-end
-slice_bounds-units_of-end c = sym c.loop-i.invariant.size
 
 pub loop-i-preserved : goal.loop-i-preserved
 loop-i-preserved c =

@@ -1,5 +1,5 @@
 -- `measure` meets its contract: the longest lengths of the nodes so far stand in `lengths`, and the root's is the last. Assumes nothing.
-use Rattle.std.proofs.Common.{◌<◌, ap, sym, ◌∙◌, arith, get_or}
+use Rattle.std.proofs.Common.{◌<◌, ap, ◌∙◌, arith, get_or}
 use Rattle.std.specs.Prelude.{None}
 use Rattle.rules.specs.Table.{count}
 use Rattle.rules.specs.Table.Laws.{Good}
@@ -12,9 +12,6 @@ use Rattle.totals.proofs.measure.Goals as goal
 
 pub loop-i-init : goal.loop-i-init
 loop-i-init c = measuring_none _ _ _
-
-pub slice_bounds-longest_of-end : goal.slice_bounds-longest_of-end
-slice_bounds-longest_of-end c = sym c.loop-i.invariant.size
 
 pub longest_of-requires : goal.longest_of-requires
 longest_of-requires c = lengths_short _ (check_good _ c.args.checked.now.fine) _ _ c.loop-i.invariant
