@@ -2,7 +2,7 @@ use Rattle.std.proofs.Common.{[], ◌≡◌, refl, ap, sym, ◌∙◌, ◌+◌, 
 use Rattle.rules.proofs.Laws.Scan.Landing.{stops, lands}
 use Rattle.rules.specs.Scan.Units.{zeros, units_at}
 use Rattle.rules.proofs.Laws.Scan.Units.{units_fit, units_stop, units_none}
-use Rattle.meter.proofs.Stores.{room_holds, room_one, room_ends, units_full}
+use Rattle.meter.proofs.Stores.{room_holds, room_ends, units_full}
 use Rattle.meter.proofs.Meter.pass_units.Goals as goal
 
 pub returns-then-self-t : goal.returns-then-self-t
@@ -24,15 +24,6 @@ returns-then-left-n c =
     (units_stop _ _ _ _ (omega (arith, full, c.if-self-t.false, c.room-left.ensures))) c.refuse-then-left-n.ensures
     (rw c.room-left.ensures at c.store_zeros.ensures) in
     record { answers = both.0; writes = both.1 }
-
-pub overflow_add-all : goal.overflow_add-all
-overflow_add-all c = omega (arith, room_one c.args.n c.args.more c.room-left.result c.if-left-n.false)
-
-pub overflow_mul-all : goal.overflow_mul-all
-overflow_mul-all c = omega (arith, room_holds c.args.n c.args.more c.room-left.result c.if-n-eq0.false c.if-left-n.false, c.room-left.ensures)
-
-pub overflow_add-result : goal.overflow_add-result
-overflow_add-result c = omega (arith, room_holds c.args.n c.args.more c.room-left.result c.if-n-eq0.false c.if-left-n.false, c.room-left.ensures, c.if-self-t.false)
 
 pub returns : goal.returns
 returns c =
