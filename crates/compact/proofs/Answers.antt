@@ -1,11 +1,7 @@
 -- What the code's tests say of `settled`, one law for each way to an answer.
-use mathlib.Core.Bool.{Bool, true, false}
-use mathlib.Core.Path.{◌≡◌, refl, ap, sym, ◌∙◌}
-use Prim.Native.Nat.{ℕ, ◌^◌, max, min, ◌≤◌, ◌<◌}
+use Rattle.std.proofs.Common.{Bool, true, false, ◌≡◌, refl, ap, sym, ◌∙◌, ℕ, ◌^◌, max, min, ◌≤◌, ◌<◌, arith, leb-true, leb-false, le-leb, le-ltb, leb}
 use Rattle.std.specs.Prelude.{List, take}
-use native.Mathlib.Omega.{arith}
-use borrow.Author.Tests.{leb-true, leb-false, le-leb, lt-leb, le-ltb}
-use lib.Dec.{leb}
+use Rattle.std.proofs.lemmas.Bool.{lt-leb}
 use Rattle.rules.specs.Basics.{pick}
 use Rattle.rules.specs.Compact.{significant, fits, Answer, value, range, settled}
 use Rattle.rules.proofs.Laws.Compact.Answers.{lt_fits, settled_yes, settled_low}

@@ -70,6 +70,7 @@ fn unused(number: usize, node: Node) -> Node
 }
 
 // What a kind says with its a and b.
+#[tactic(auto, unfolding(rules::specs::Table::node_of))]
 fn node_of(kind: u8, a: usize, n: u16) -> Node
     ensures { result ≡ node_of kind a n }
 {

@@ -1,12 +1,9 @@
 -- Laws of the loops over the nodes, which fill an array rising: of its first i places each has its node's number, and the others have 0. The numbers of this crate are footprints.
 use Rattle.std.specs.Prelude.{true, false, ◌≡◌, refl, length, get_or, set, replicate, Ok, Err}
-use mathlib.Core.List.{List, ◌++◌}
-use Rattle.std.proofs.Common.{ap, ◌∙◌, add-one, below_more, length-set, length-append, get_or-set_same, get_or-set_other, get_or-append-add}
+use Rattle.std.proofs.Common.{ap, ◌∙◌, add-one, below_more, length-set, length-append, get_or-set_same, get_or-set_other, get_or-append-add, List, ◌++◌, ℕ, zero, suc, ◌+◌, ◌-◌, ◌^◌, ◌≤◌, ◌<◌, arith}
 use Rattle.std.proofs.Math.Path.{sym}
-use Prim.Native.Nat.{ℕ, zero, suc, ◌+◌, ◌-◌, ◌^◌, ◌≤◌, ◌<◌}
 use Rattle.std.proofs.Math.Decide.{dec_lt}
 use Rattle.std.proofs.Math.Nat.{sub-zero}
-use native.Mathlib.Omega.{arith}
 use Rattle.std.proofs.lemmas.List.{length-replicate}
 use Rattle.std.proofs.Math.Seq.{ext_get_or}
 use Rattle.rules.specs.declared.Refusal.{Refusal}

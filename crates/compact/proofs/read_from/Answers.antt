@@ -1,7 +1,5 @@
 -- `compact::read_from` meets its contract: the form is the first byte modulo 4, and each form's function gives its answer. Assumes nothing.
-use mathlib.Core.Path.{◌≡◌, ap, sym, ◌∙◌}
-use Prim.Native.Nat.{ℕ, ◌+◌, ◌%◌}
-use native.Mathlib.Omega.{arith}
+use Rattle.std.proofs.Common.{◌≡◌, ap, sym, ◌∙◌, ℕ, ◌+◌, ◌%◌, arith}
 use Rattle.rules.specs.Types.{size}
 use Rattle.rules.specs.Compact.{form3}
 use Rattle.rules.proofs.Laws.Compact.Answers.{at_0, at_1, at_2, at_3}

@@ -1,6 +1,5 @@
 -- `compact::settle_long` meets its contract. Assumes nothing.
-use mathlib.Core.Path.{ap, ◌∙◌}
-use native.Mathlib.Omega.{arith}
+use Rattle.std.proofs.Common.{ap, ◌∙◌, arith}
 use Rattle.compact.specs.Halves.{in_halves}
 use Rattle.compact.proofs.Answers.{refuse_max, settled_max}
 use Rattle.compact.specs.Sizes.{under, over}

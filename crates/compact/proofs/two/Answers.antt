@@ -1,6 +1,5 @@
 -- `compact::two` meets its contract. Assumes nothing.
-use mathlib.Core.Path.{◌∙◌}
-use borrow.Author.Tests.{lt-ltb, le-ltb}
+use Rattle.std.proofs.Common.{◌∙◌, lt-ltb, le-ltb}
 use Rattle.rules.specs.Compact.{form1}
 use Rattle.compact.proofs.Answers.{one_half}
 use Rattle.compact.proofs.two.Goals as goal

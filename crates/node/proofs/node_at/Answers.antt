@@ -1,8 +1,6 @@
 -- `node_at` meets its contract: the two tests say whether the four bytes are there. Assumes nothing.
-use Prim.Native.Nat.{◌+◌, ◌*◌}
-use native.Mathlib.Omega.{arith}
-use borrow.Author.Tests.{le-leb, lt-leb}
-use lib.ListN.{length}
+use Rattle.std.proofs.Common.{◌+◌, ◌*◌, arith, le-leb, length}
+use Rattle.std.proofs.lemmas.Bool.{lt-leb}
 use Rattle.rules.specs.Table.{node_at, node_in}
 use Rattle.node.proofs.node_at.Goals as goal
 

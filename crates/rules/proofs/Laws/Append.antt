@@ -1,10 +1,7 @@
 -- Append over the definitions: to a vector as the writer gives it, it gives the encoding of the joined items; no items change nothing.
-use mathlib.Core.List.{List, ◌++◌, [], ◌∷◌, append_assoc, append-nil}
 use Rattle.std.proofs.Math.Path.{◌≡◌, ap, sym}
 use Rattle.std.specs.Prelude.{refl, drop, take}
-use Rattle.std.proofs.Common.{◌∙◌, ap₂, subst, le_refl, add-zero, le-ltb, le-leb, length-append, take-append-drop}
-use Prim.Native.Nat.{ℕ, ◌+◌, ◌≤◌}
-use native.Mathlib.Omega.{arith}
+use Rattle.std.proofs.Common.{◌∙◌, ap₂, subst, le_refl, add-zero, le-ltb, le-leb, length-append, take-append-drop, List, ◌++◌, [], ◌∷◌, append_assoc, append-nil, ℕ, ◌+◌, ◌≤◌, arith}
 use Rattle.std.proofs.Math.ListN.{length}
 use Rattle.std.proofs.Math.Seq.{drop-append_seam}
 use Rattle.rules.specs.Refusals.{short_at, cells_left_at, append_used, append_count, max_count}

@@ -1,12 +1,9 @@
 -- Reading what was written, and writing what was read, once for every form: both follow for all types from the same two laws of leaves and of bit vectors.
 pub mod Units
 use Rattle.std.specs.Prelude.{◌⊎◌, ◌≡◌, length, take}
-use mathlib.Core.List.{List, ◌++◌, []}
 use Rattle.std.proofs.Math.Logic.{inl, inr}
 use Rattle.std.proofs.Math.Path.{refl, subst}
-use Rattle.std.proofs.Common.{sym, lit<}
-use Prim.Native.Nat.{ℕ, zero, suc, ◌^◌, ◌<◌}
-use native.Mathlib.Omega.{arith}
+use Rattle.std.proofs.Common.{sym, lit<, List, ◌++◌, [], ℕ, zero, suc, ◌^◌, ◌<◌, arith}
 use Rattle.rules.specs.Basics.{choose, flat}
 use Rattle.rules.specs.Types.{w4, bool, compact, Ty, leaf, nothing, result, pair, array, vector, bits, Val, Fits}
 use Rattle.rules.specs.Bits.Laws.{Like}

@@ -1,6 +1,6 @@
 -- When bytes open with the one encoding of a value: what THE LAW of compact numbers (`compact_exactly`) is about.
 use Rattle.std.specs.Prelude.{true, List, ◌≡◌, length}
-use Prim.Native.Nat.{ℕ}
+use Rattle.std.proofs.Common.{ℕ}
 use Rattle.std.proofs.Math.ListN.{take}
 use Rattle.rules.specs.Compact.{compact_bytes, fits}
 

@@ -1,7 +1,6 @@
 -- When reading undoes writing, and writing reading, for a form: what is asked of its leaves and bit vectors, and what follows of every type.
 use Rattle.std.specs.Prelude.{Bool, length}
-use mathlib.Core.List.{List}
-use Prim.Native.Nat.{ℕ, ◌≤◌, ◌<◌}
+use Rattle.std.proofs.Common.{List, ℕ, ◌≤◌, ◌<◌}
 use Rattle.rules.specs.Refusals.{max_bits}
 use Rattle.rules.specs.Basics.{All, flat}
 use Rattle.rules.specs.Types.{Leaf, Ty, Val, bound, Fits}

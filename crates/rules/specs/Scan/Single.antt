@@ -1,7 +1,6 @@
 -- One item under the limits, for the code that passes scalars, heads and units.
 use Rattle.std.specs.Prelude.{Bool, ◌≡◌, Ok, Err}
-use mathlib.Core.List.{List, [], ◌∷◌}
-use Prim.Native.Nat.{ℕ, ◌+◌, max}
+use Rattle.std.proofs.Common.{List, [], ◌∷◌, ℕ, ◌+◌, max}
 use Rattle.rules.specs.Bits.{words64, pack}
 use Rattle.rules.specs.Parser.{Res, got, bad}
 use Rattle.rules.specs.Wire.{lanes_from}

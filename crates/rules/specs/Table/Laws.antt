@@ -1,6 +1,6 @@
 -- What a checked table is, exactly.
 use Rattle.std.specs.Prelude.{true, List, ◌≡◌, length}
-use Prim.Native.Nat.{ℕ, ◌+◌, ◌*◌, ◌≤◌, ◌<◌}
+use Rattle.std.proofs.Common.{ℕ, ◌+◌, ◌*◌, ◌≤◌, ◌<◌}
 use Rattle.rules.specs.Refusals.{max_footprint}
 use Rattle.rules.specs.Totals.{foot}
 use Rattle.rules.specs.Table.{Node, leaf_node, option_node, result_node, pair_node, array_node, vector_node, bits_node, unknown, count, node_at, ty_at, marked}

@@ -1,9 +1,5 @@
 -- What `weigh` says of a node is what `weighing` says: the same test and the same footprint. Assumes nothing.
-use mathlib.Core.Bool.{true}
-use mathlib.Core.Path.{◌≡◌, sym, ap, ◌∙◌}
-use Prim.Native.Nat.{◌<◌}
-use native.Mathlib.Omega.{arith}
-use lib.ListN.{get_or}
+use Rattle.std.proofs.Common.{true, ◌≡◌, sym, ap, ◌∙◌, ◌<◌, arith, get_or}
 use Rattle.rules.specs.Totals.{foot}
 use Rattle.rules.specs.Table.{node_at, ty_at, allowed}
 use Rattle.rules.proofs.Laws.Table.{head_fine}

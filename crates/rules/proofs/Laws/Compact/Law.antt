@@ -2,8 +2,7 @@
 -- the width. `compact_reads` is one half, `compact_opens` the other, `compact_exactly` both.
 use Rattle.std.specs.Prelude.{Bool, true, false, List, ◌++◌, [], ◌∷◌, ◌↔◌, ◌≡◌, ltb, leb, eqb, length, drop}
 use Rattle.std.proofs.Math.Path.{refl}
-use Rattle.std.proofs.Common.{ap, sym, ◌∙◌, ap₂, lt_of_lt_of_le, add-one, arith, ltb-false, leb-true, length-append, take-append-drop, pow_mono, take_at, length-take-le}
-use Prim.Native.Nat.{ℕ, zero, suc, ◌+◌, ◌-◌, ◌*◌, ◌/◌, ◌%◌, ◌^◌, max, ◌≤◌, ◌<◌}
+use Rattle.std.proofs.Common.{ap, sym, ◌∙◌, ap₂, lt_of_lt_of_le, add-one, arith, ltb-false, leb-true, length-append, take-append-drop, pow_mono, take_at, length-take-le, ℕ, zero, suc, ◌+◌, ◌-◌, ◌*◌, ◌/◌, ◌%◌, ◌^◌, max, ◌≤◌, ◌<◌}
 use Rattle.std.proofs.Math.Decide.{dec_lt}
 use Rattle.std.proofs.Math.ListN.{take}
 use Rattle.rules.specs.Basics.{pick, Under}

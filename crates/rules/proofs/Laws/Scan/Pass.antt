@@ -1,9 +1,8 @@
 -- For the proofs of code: the limited reader kind by kind. `pass_at` is a reader at level lv and offset `at`, with the totals so far: its answer, with the offset
 -- where it ended, and the cells of the items that it passed. Each law says what it is over its children, so that a walker's contract is met kind by kind.
 use Rattle.std.specs.Prelude.{Bool, true, false, List, ◌++◌, ◌≡◌, ℕ, zero, suc, ◌+◌, ◌-◌, leb, drop, Option, Some, None, Ok, Err}
-use Rattle.std.proofs.Common.{append_assoc, sym, ◌∙◌, add-zero}
+use Rattle.std.proofs.Common.{append_assoc, sym, ◌∙◌, add-zero, arith}
 use Rattle.std.proofs.Math.Path.{refl, ap}
-use native.Mathlib.Omega.{arith}
 use Rattle.rules.specs.Refusals.{Refusal, bit_count_at, max_bits}
 use Rattle.rules.specs.Basics.{pick, choose}
 use Rattle.rules.specs.Types.{w4, Leaf, bool, compact, Ty, leaf, nothing, result, pair, array, vector, bits}

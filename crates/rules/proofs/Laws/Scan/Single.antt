@@ -1,10 +1,8 @@
 -- One item under the limits, by the tests that decide it: for the code that passes scalars, heads and units.
 use Rattle.std.specs.Prelude.{Bool, ◌≡◌, drop, Option, Some, None, Ok, Err}
-use mathlib.Core.List.{List, [], ◌∷◌, append-nil}
 use Rattle.std.proofs.Math.Path.{refl, ap}
-use Rattle.std.proofs.Common.{◌∙◌, subst, arith}
-use Prim.Native.Nat.{ℕ, ◌+◌, ◌-◌, ◌≤◌, ◌<◌}
-use borrow.Author.Tests.{lt-ltb, le-ltb, le-leb, lt-leb}
+use Rattle.std.proofs.Common.{◌∙◌, subst, arith, List, [], ◌∷◌, append-nil, ℕ, ◌+◌, ◌-◌, ◌≤◌, ◌<◌, lt-ltb, le-ltb, le-leb}
+use Rattle.std.proofs.lemmas.Bool.{lt-leb}
 use Rattle.std.proofs.Math.ListN.{length}
 use Rattle.rules.specs.Refusals.{Refusal, bit_count_at, depth_at, memory_at, room_at, max_bits}
 use Rattle.rules.specs.Basics.{pick}

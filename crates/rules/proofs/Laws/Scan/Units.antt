@@ -2,9 +2,8 @@
 -- walk: either all of them are passed, or as many as there is room for.
 use Rattle.std.specs.Prelude.{List, [], ◌∷◌, ◌≡◌, ℕ, zero, suc, ◌+◌, ◌-◌, ◌*◌, ◌^◌, ◌≤◌, ◌<◌, min, drop, Option, Some, None, Ok, Err}
 use Rattle.std.proofs.Math.Path.{refl, ap, sym}
-use Rattle.std.proofs.Common.{◌∙◌, subst, add-zero, lt-ltb, le-ltb}
+use Rattle.std.proofs.Common.{◌∙◌, subst, add-zero, lt-ltb, le-ltb, arith}
 use Rattle.std.proofs.Math.Decide.{dec_le}
-use native.Mathlib.Omega.{arith}
 use Rattle.std.proofs.lemmas.List.{replicate-append-replicate}
 use Rattle.rules.specs.Refusals.{Refusal, room_at}
 use Rattle.rules.specs.Basics.{pick}

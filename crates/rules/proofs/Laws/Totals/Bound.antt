@@ -1,7 +1,6 @@
 -- Bounds by a type: an encoding is at most as long as the longest length, and that is at most twice the footprint. And by cells: nine bytes for each at most.
 use Rattle.std.specs.Prelude.{List, ◌++◌, [], ◌∷◌, ◌≡◌, ℕ, ◌+◌, ◌*◌, ◌/◌, ◌%◌, ◌^◌, max, ◌≤◌, ◌<◌, length, Option, Some, None}
-use Rattle.std.proofs.Common.{inl, inr, subst, le_of_eq, le_trans, mul-le-mul_left, lt_of_le_of_lt, lit≤, lit<}
-use native.Mathlib.Omega.{arith}
+use Rattle.std.proofs.Common.{inl, inr, subst, le_of_eq, le_trans, mul-le-mul_left, lt_of_le_of_lt, lit≤, lit<, arith}
 use Rattle.std.proofs.Math.ListN.{length-append}
 use Rattle.rules.specs.Basics.{pick, All, flat}
 use Rattle.rules.specs.Types.{Width, w1, w2, w4, w8, w16, Leaf, unit, bool, opt_bool, fixed, compact, float, size, Ty, leaf, nothing, result, pair, array, vector, bits, Val, bound, Fits}
