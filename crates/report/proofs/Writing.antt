@@ -1,11 +1,11 @@
 -- Texts put one after another.
-use Rattle.std.proofs.Common.{◌≡◌, ℕ, ◌+◌, ◌-◌, ◌*◌, ◌≤◌, ◌<◌, min, Bool, true, false, leb, List, [], ◌∷◌, ◌++◌, length, take, drop, get_or, refl, ap, sym, ◌∙◌, subst, append_assoc, append-nil, arith, add-zero, add-one, take-suc, take_all, take-append-drop, drop-drop, length-append, length-take, length-take-le, leb-true, leb-false}
+use Rattle.std.proofs.Common.{◌≡◌, ℕ, ◌+◌, ◌-◌, ◌*◌, ◌≤◌, ◌<◌, min, Bool, true, false, leb, List, [], ◌∷◌, ◌++◌, length, take, drop, get_or, refl, ap, sym, ◌∙◌, subst, append_assoc, append-nil, arith, add-zero, add-one, take-suc, take_all, take-append-drop, drop-drop, length-append, length-take, length-take-le, leb-true, leb-false, MutBor}
 use Rattle.std.proofs.lemmas.List.Edits.{sets, sets-eq}
 use Rattle.rules.specs.Basics.{flat}
 use Rattle.rules.proofs.Laws.Places.{sets_join, sets_length, sets_out}
 use Rattle.report.specs.Text.{spaced, cell_line}
-use Rattle.report.specs.Puts.{Puts, ended}
-use Rattle.report.specs.Writer.{Adds}
+use Rattle.report.specs.Contract.{Contract}
+use Rattle.report.specs.Writer.{Adds, ended}
 use Rattle.report.specs.declared.Writer.{Writer}
 use Rattle.report.proofs.Answers.{cells_length}
 
@@ -48,29 +48,20 @@ copied s l t e at n p q r =
 
 -- ---- one text, and another behind it
 
-pub then : {a b l m k : List ℕ} {at i j : ℕ} → Puts a at l i m → Puts b i m j k → Puts (a ++ b) at l j k
-then {a} {b} {l} {m} {k} {at} {i} {j} p q =
+pub then : {a b : List ℕ} {u v w : Writer} → Adds a u v → Adds b v w → Adds (a ++ b) u w
+then {a} {b} {u} {v} p q =
     record {
       ends = omega (arith, p.ends, q.ends, length-append a b);
-      holds = q.holds ∙ ap (λ (x : List ℕ). sets x i b) p.holds ∙ ap (λ (x : ℕ). sets (sets l at a) x b) p.ends ∙ sets_join a b l at;
+      holds = q.holds ∙ ap (λ (x : List ℕ). sets x v.end b) p.holds ∙ ap (λ (i : ℕ). sets (sets u.out.now u.end a) i b) p.ends ∙ sets_join a b u.out.now u.end;
+      same_memory = q.same_memory ∙ p.same_memory;
     }
 
-pub same_text : {a b l m : List ℕ} {at r : ℕ} → a ≡ b → Puts a at l r m → Puts b at l r m
-same_text {l = l} {m = m} {at = at} {r = r} e p = subst (λ x. Puts x at l r m) e p
+pub same_text : {a b : List ℕ} {v w : Writer} → a ≡ b → Adds a v w → Adds b v w
+same_text {v = v} {w = w} e p = subst (λ x. Adds x v w) e p
 
-pub then_adds : {a b : List ℕ} {u v w : Writer} → Adds a u v → Adds b v w → Adds (a ++ b) u w
-then_adds p q = record { puts = then p.puts q.puts; same_memory = q.same_memory ∙ p.same_memory }
-
-pub same_adds : {a b : List ℕ} {v w : Writer} → a ≡ b → Adds a v w → Adds b v w
-same_adds {v = v} {w = w} e p = subst (λ x. Adds x v w) e p
-
--- where the writer is gone, what it put is what the lent memory holds
-pub given_back : {a k : List ℕ} {v w : Writer} → Adds a v w → (v.out.ghost_name ≡ w.out.ghost_name → k ≡ w.out.now) → Puts a v.end v.out.now w.end k
-given_back p h = record { ends = p.puts.ends; holds = h (sym p.same_memory) ∙ p.puts.holds }
-
--- from the front
-pub put_front : {a l m : List ℕ} {r : ℕ} → Puts a 0 l r m → (r ≡ length a) × (m ≡ sets l 0 a)
-put_front {a} p = (omega (arith, p.ends), p.holds)
+-- the writer is given up, and what it put is what the lent memory holds
+pub given_back : {a k : List ℕ} {o : MutBor (List ℕ)} {w : Writer} → Adds a (record { out = o; end = 0 }) w → (o.ghost_name ≡ w.out.ghost_name → k ≡ w.out.now) → Contract a o.now w.end k
+given_back p h = record { answers = omega (arith, p.ends); writes = h (sym p.same_memory) ∙ p.holds }
 
 -- ---- numbers behind a space
 
@@ -80,7 +71,7 @@ spaced_out t n c = append_assoc t (32 ∷ []) (ended n c) ∙ sym (append_assoc 
 pub then_two : (t : List ℕ) (a b c : ℕ) {u v w : Writer} → Adds (t ++ (32 ∷ [])) u v → Adds (ended a 32 ++ ended b c) v w → Adds (((t ++ spaced a) ++ spaced b) ++ (c ∷ [])) u w
 then_two t a b c p q =
     let s = t ++ (32 ∷ []) in
-    same_adds (sym (append_assoc s (ended a 32) (ended b c)) ∙ ap (λ (x : List ℕ). x ++ ended b c) (spaced_out t a 32) ∙ spaced_out (t ++ spaced a) b c) (then_adds p q)
+    same_text (sym (append_assoc s (ended a 32) (ended b c)) ∙ ap (λ (x : List ℕ). x ++ ended b c) (spaced_out t a 32) ∙ spaced_out (t ++ spaced a) b c) (then p q)
 
 -- ---- lines, cell by cell
 
@@ -90,7 +81,7 @@ flat_append f (x ∷ a) b = ap (λ l. f x ++ l) (flat_append f a b) ∙ sym (app
 
 -- none
 pub no_cells : (v : Writer) → Adds [] v v
-no_cells v = record { puts = record { ends = sym (add-zero v.end); holds = refl }; same_memory = refl }
+no_cells v = record { ends = sym (add-zero v.end); holds = refl; same_memory = refl }
 
 -- one more
 pub cell_more : (s : List ℕ) (u v w : Writer) (i : ℕ) → i < length s → Adds (flat cell_line (take i s)) u v → Adds (ended (get_or s i 0) 10) v w
@@ -100,8 +91,8 @@ cell_more s u v w i h p q =
     let cell : List ℕ = get_or s i 0 ∷ [] in
     let line : ended (get_or s i 0) 10 ≡ flat cell_line cell = sym (append-nil (ended (get_or s i 0) 10)) in
     let next : take i s ++ cell ≡ take (i + 1) s = sym (take-suc s i 0 h) ∙ ap (λ (x : ℕ). take x s) (sym (add-one i)) in
-    same_adds (sym (flat_append cell_line (take i s) cell) ∙ ap (flat cell_line) next) (then_adds p (same_adds line q))
+    same_text (sym (flat_append cell_line (take i s) cell) ∙ ap (flat cell_line) next) (then p (same_text line q))
 
 -- where the lines of the first i cells end
 pub cells_end : (s : List ℕ) (v w : Writer) (i : ℕ) → i ≤ length s → Adds (flat cell_line (take i s)) v w → w.end ≤ v.end + 21 * i
-cells_end s v w i h p = omega (arith, p.puts.ends, cells_length (take i s), length-take i s)
+cells_end s v w i h p = omega (arith, p.ends, cells_length (take i s), length-take i s)

@@ -7,7 +7,7 @@ ghost use Rattle.std.specs.Prelude.{◌≡◌, ◌++◌, ◌+◌, ◌*◌, ◌�
 ghost use Rattle.std.proofs.lemmas.List.Edits.{sets};
 ghost use Rattle.rules.specs.Basics.{flat};
 ghost use Rattle.report.specs.Text.{ok_line, refused_line, cell_line, report_of, unreadable};
-ghost use Rattle.report.specs.Puts.{Puts, ended};
+ghost use Rattle.report.specs.Contract.{Contract};
 
 use rules::{Limits, Scan, Totals};
 
@@ -32,7 +32,7 @@ struct Writer<'a> {
 }
 
 impl<'a> Writer<'a> {
-    ghost use Rattle.report.specs.Writer.{Adds};
+    ghost use Rattle.report.specs.Writer.{Adds, ended};
 
     // Puts a text behind what stands, as far as it goes in. All that follow do the same with texts of their own.
     fn put(&mut self, text: &[u8])
@@ -79,7 +79,7 @@ impl<'a> Writer<'a> {
 }
 
 fn put_refused(number: u32, place: usize, out: &mut [u8]) -> usize
-    ensures { Puts (refused_line number place) 0 out.old result out.new }
+    ensures { Contract (refused_line number place) out.old result out.new }
 {
     let mut writer = Writer { out, end: 0 };
     writer.put(b"refused ");
@@ -89,7 +89,7 @@ fn put_refused(number: u32, place: usize, out: &mut [u8]) -> usize
 
 fn put_done(totals: Totals, used: usize, cells: &[u64], out: &mut [u8]) -> usize
     requires { length cells.now ≤ 4096 }
-    ensures { Puts (ok_line totals used ++ flat cell_line cells.now) 0 out.old result out.new }
+    ensures { Contract (ok_line totals used ++ flat cell_line cells.now) out.old result out.new }
 {
     let mut writer = Writer { out, end: 0 };
     writer.put(b"ok ");

@@ -1,8 +1,5 @@
 -- `report` meets its contract: the counted cells are those that the reading passed, and they are all there. Assumes nothing.
-use mathlib.Core.Path.{sym}
-use native.Mathlib.Omega.{arith}
-use lib.Seq.{length-take-le}
-use Rattle.report.proofs.Writing.{put_front}
+use Rattle.std.proofs.Common.{sym, arith, length-take-le}
 use Rattle.report.proofs.Reading.{refused_put, cells_there, done_put, cut_short}
 use Rattle.report.proofs.report.Goals as goal
 
@@ -18,10 +15,10 @@ put_done-requires c = cut_short _ _ (cells_there _ _ _ _ (c.read_whole-answer.en
 
 pub returns-in-Refused : goal.returns-in-Refused
 returns-in-Refused c =
-    let both = put_front (refused_put _ _ _ _ (c.read_whole-answer.ensures.answers, c.read_whole-answer.ensures.writes) _ _ _ _ c.in-Refused.is c.put_refused.ensures) in
-    record { answers = both.0; writes = both.1 }
+    let both = refused_put _ _ _ _ (c.read_whole-answer.ensures.answers, c.read_whole-answer.ensures.writes) _ _ _ _ c.in-Refused.is c.put_refused.ensures in
+    record { answers = both.answers; writes = both.writes }
 
 pub returns-in-Done : goal.returns-in-Done
 returns-in-Done c =
-    let both = put_front (done_put _ _ _ _ (c.read_whole-answer.ensures.answers, c.read_whole-answer.ensures.writes) _ _ _ _ _ c.in-Done.is c.put_done.ensures) in
-    record { answers = both.0; writes = both.1 }
+    let both = done_put _ _ _ _ (c.read_whole-answer.ensures.answers, c.read_whole-answer.ensures.writes) _ _ _ _ _ c.in-Done.is c.put_done.ensures in
+    record { answers = both.answers; writes = both.writes }

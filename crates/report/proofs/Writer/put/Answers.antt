@@ -5,6 +5,7 @@ use Rattle.report.proofs.Writer.put.Goals as goal
 
 pub returns : goal.returns
 returns c = record {
-  puts = record { ends = refl; holds = copied c.args.text.now c.args.self.now.out.now _ _ _ _ c.min-at.ensures c.min-n.ensures c.copy_from_slice.ensures.after };
+  ends = refl;
+  holds = copied c.args.text.now c.args.self.now.out.now _ _ _ _ c.min-at.ensures c.min-n.ensures c.copy_from_slice.ensures.after;
   same_memory = refl;
 }
