@@ -1,5 +1,5 @@
 -- From the reading into 4096 cells to the report: r is its answer, and m the cells afterwards.
-use Rattle.std.proofs.Common.{List, ◌++◌, ◌≡◌, ℕ, ◌≤◌, length, take, drop, replicate, ap, sym, ◌∙◌, subst, arith, length-take, take_at}
+use Rattle.std.proofs.Common.{List, ◌++◌, ◌≡◌, ℕ, ◌≤◌, length, take, drop, replicate, ap, sym, ◌∙◌, subst, take_at}
 use Rattle.std.proofs.Math.ListN.{length-replicate}
 use Rattle.rules.specs.Basics.{flat, onto}
 use Rattle.rules.specs.Jobs.{read_whole, cut_to, cells_after}
@@ -36,20 +36,19 @@ module _ (tb s m : List ℕ) (r : Scan) (f : Filled tb s m r) where
   pub refused_put : (y : Refusal) (out text : List ℕ) (k : ℕ) → r ≡ stopped y → Contract (refused_line y.number y.place) out k text → Contract (report_of tb s) out k text
   refused_put y out text k e p = same_contract (sym (report_refused tb s y (answered (stopped y) e))) p
 
-  -- the counted cells are there, and are those that were passed
-  pub cells_there : (u : Totals) (n : ℕ) → r ≡ done u n → (u.cells ≤ 4096) × (take u.cells m ≡ scanned (root tb) program_limits s)
-  cells_there u n e =
-      let c = cells_counted tb s u n (answered (done u n) e) in
+  -- the counted cells are there
+  pub few_cells : (u : Totals) (n : ℕ) → r ≡ done u n → u.cells ≤ 4096
+  few_cells u n e = (cells_counted tb s u n (answered (done u n) e)).1
+
+  -- and are those that were passed
+  cells_passed : (u : Totals) (n : ℕ) → r ≡ done u n → take u.cells m ≡ scanned (root tb) program_limits s
+  cells_passed u n e =
       let passed : List ℕ = scanned (root tb) program_limits s in
       let w : m ≡ onto passed blank =
       f.1 ∙ ap (λ (a : Scan). cells_after (scanned (root tb) (cut_to (length blank) program_limits) s) a blank) e
       ∙ ap (λ (x : Limits). onto (scanned (root tb) x s) blank) uncut in
-      (c.1, ap (take u.cells) w ∙ take_at passed (drop (length passed) blank) u.cells (sym c.0))
+      ap (take u.cells) w ∙ take_at passed (drop (length passed) blank) u.cells (sym (cells_counted tb s u n (answered (done u n) e)).0)
 
   pub done_put : (u : Totals) (n : ℕ) (out text : List ℕ) (k : ℕ) → r ≡ done u n → Contract (ok_line u n ++ flat cell_line (take u.cells m)) out k text → Contract (report_of tb s) out k text
   done_put u n out text k e p =
-      same_contract (ap (λ (l : List ℕ). ok_line u n ++ flat cell_line l) (cells_there u n e).1 ∙ sym (report_done tb s u n (answered (done u n) e))) p
-
--- so many cells at most
-pub cut_short : (k : ℕ) (m : List ℕ) → k ≤ 4096 → length (take k m) ≤ 4096
-cut_short k m h = omega (arith, length-take k m)
+      same_contract (ap (λ (l : List ℕ). ok_line u n ++ flat cell_line l) (cells_passed u n e) ∙ sym (report_done tb s u n (answered (done u n) e))) p

@@ -121,6 +121,7 @@ pub fn report(table: &[u8], message: &[u8], out: &mut [u8]) -> usize
 }
 
 // The line of the refusal that comes before any other: a file is missing or too large. Likewise.
+#[tactic(auto, unfolding(crate::specs::Text::unreadable))]
 pub fn report_unreadable(out: &mut [u8]) -> usize
     ensures answers { result ≡ length unreadable }
     ensures writes { out.new ≡ sets out.old 0 unreadable }
