@@ -15,7 +15,8 @@ const TABLE_MOST: usize = 262;
 
 const MESSAGE_MOST: usize = 32768;
 
-// Reads until `space` is full or the file ends, and answers how many bytes it put at the front of `space`.
+// Reads until `space` is full or the file ends, and answers how many bytes it put at the front of `space`. Its loop stands since `read_exact` fails at a file that
+// ends before, and `read_to_end` fills a `Vec`, which allocates.
 fn read_full(file: &mut impl Read, space: &mut [u8]) -> io::Result<usize>
     ensures { ReadsAtMost result space.new }
 {
