@@ -46,7 +46,6 @@ fn load(rt: &impl Files, name: &str, space: &mut [u8]) -> Option<usize>
 }
 
 // A report that can't be written is left out, and the run ends as ever.
-#[tactic(auto, using(crate::proofs::Room::room))]
 fn main(rt: HostRuntime) {
     let mut table = [0u8; TABLE_MOST];
     let mut message = [0u8; MESSAGE_MOST];
