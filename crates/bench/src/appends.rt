@@ -1,6 +1,4 @@
 // Appends to a vector of bytes.
-ghost use Rattle.std.specs.Prelude.{◌≡◌, length};
-
 use crate::report::{Tally, say_plan, say_refusal};
 use rules::Written;
 
@@ -24,7 +22,7 @@ fn accepts(
             if n != new_used {
                 return false;
             }
-            check::same(buffer, after)
+            &*buffer == after
         }
     }
 }
@@ -37,36 +35,28 @@ fn refuses(buffer: &mut [u8], used: usize, k: u64, cells: &[u64], before: &[u8])
             if y.number != rules::APPEND_COUNT {
                 return false;
             }
-            check::same(buffer, before)
+            &*buffer == before
         }
     }
 }
 
 // The bytes 1 to 63 behind a head of one byte.
-fn before() -> [u8; 66]
-    ensures { 66 ≡ length result }
-{
+fn before() -> [u8; 66] {
     let mut buffer = [0xee; 66];
     buffer[0] = 0xfc;
-    let mut i: u8 = 1;
-    while i < 64 {
+    for i in 1..64u8 {
         buffer[i as usize] = i;
-        i += 1;
     }
     buffer
 }
 
 // The same behind a head of two bytes, and one more: the old bytes have moved up.
-fn after() -> [u8; 66]
-    ensures { 66 ≡ length result }
-{
+fn after() -> [u8; 66] {
     let mut buffer = [0xee; 66];
     buffer[0] = 0x01;
     buffer[1] = 0x01;
-    let mut i: u8 = 1;
-    while i < 64 {
+    for i in 1..64u8 {
         buffer[i as usize + 1] = i;
-        i += 1;
     }
     buffer[65] = 200;
     buffer

@@ -19,24 +19,12 @@ pub(crate) fn with_memory(memory: u64) -> Limits {
     }
 }
 
-// Lent cells hold 9 before.
-fn cell_or_nine(cells: &[u64], i: usize) -> u64 {
-    if i < cells.len() {
-        return cells[i];
-    }
-    9
-}
-
-// Are the cells of the plan at the front, with nines behind them?
+// Are the cells of the plan at the front, with nines behind them? Lent cells hold 9 before.
 fn hold(lent: &[u64], cells: &[u64]) -> bool {
-    let mut i = 0;
-    while i < lent.len() {
-        if lent[i] != cell_or_nine(cells, i) {
-            return false;
-        }
-        i += 1;
+    match lent.strip_prefix(cells) {
+        Some(rest) => rest.iter().all(|&cell| cell == 9),
+        None => false,
     }
-    cells.len() <= lent.len()
 }
 
 // Does writing take all of the output, and is this the message then?
@@ -47,7 +35,7 @@ fn writes_in(table: &[u8], cells: &[u64], message: &[u8], out: &mut [u8]) -> boo
             if n != out.len() {
                 return false;
             }
-            check::same(out, message)
+            &*out == message
         }
     }
 }
@@ -64,13 +52,7 @@ fn writes(table: &[u8], cells: &[u64], message: &[u8]) -> bool {
 
 // Do these totals stand in the plan?
 fn is_counted(totals: Totals, cells: usize, charge: u64, depth: u32) -> bool {
-    if totals.cells != cells as u64 {
-        return false;
-    }
-    if totals.charge != charge {
-        return false;
-    }
-    totals.depth == depth
+    totals.cells == cells as u64 && totals.charge == charge && totals.depth == depth
 }
 
 // Is the whole message read as the cells, with this charge and depth?

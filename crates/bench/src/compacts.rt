@@ -1,15 +1,11 @@
 // Compact numbers: each by the compact reader and writer, and as the one node of a table.
-ghost use Rattle.std.specs.Prelude.{◌≡◌, length};
-
 use crate::checks::{reads_and_writes, refuses, usual};
 use crate::report::{Tally, say, say_bytes, say_plan, say_refusal, say_width};
 use compact::Reading;
 use rules::Width;
 
 // The table of one compact number.
-fn table_of(width: Width) -> [u8; 10]
-    ensures { 10 ≡ length result }
-{
+fn table_of(width: Width) -> [u8; 10] {
     let size = compact::size(width);
     [b'W', b'T', b'D', 1, 0, 1, 4, size, 0, 0]
 }
@@ -39,14 +35,13 @@ fn table_accepts(width: Width, bytes: &[u8], value: u64) -> bool {
 }
 
 // Are the bytes read as the value, and the value written as the bytes?
+#[tactic(auto, using(compact_put::specs::Laws::written_room))]
 fn accepts(width: Width, bytes: &[u8], value: u64) -> bool {
     if !is_value(compact::read(bytes, width), value, bytes.len()) {
         return false;
     }
     let encoded = compact_put::write(value, 0);
-    let n = encoded.len;
-    let written = encoded.bytes;
-    check::same(&written[..n], bytes)
+    &encoded.bytes[..encoded.len] == bytes
 }
 
 fn say_compact(rt: &impl Print, same: bool, name: &[u8], width: Width, how: &[u8], bytes: &[u8]) {

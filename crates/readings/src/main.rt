@@ -50,30 +50,21 @@ fn read(rt: &impl Print, table: &[u8], s: &[u8], memory: u64) {
     let mut cells = [9u64; 4];
     print(rt, decode::read_whole(table, s, limits, &mut cells));
     say(rt, b":");
-    number(rt, cells[0]);
-    number(rt, cells[1]);
-    number(rt, cells[2]);
-    number(rt, cells[3]);
+    for cell in cells {
+        number(rt, cell);
+    }
     say(rt, b"\n");
 }
 
 // A table of 64 nodes: the first of a kind without children, then each made of the one before: pairs of it, or arrays of 65535.
 fn stacked(first: u8, kind: u8) -> [u8; 262] {
     let mut table = [0u8; 262];
-    table[0] = b'W';
-    table[1] = b'T';
-    table[2] = b'D';
-    table[3] = 1;
-    table[5] = 64;
-    table[6] = first;
-    let mut node: u8 = 1;
-    while node < 64 {
+    table[..7].copy_from_slice(&[b'W', b'T', b'D', 1, 0, 64, first]);
+    for node in 1..64 {
+        let below = node - 1;
+        let (low, high) = if kind == 8 { (below, 0) } else { (255, 255) };
         let at = 6 + 4 * (node as usize);
-        table[at] = kind;
-        table[at + 1] = node - 1;
-        table[at + 2] = if kind == 8 { node - 1 } else { 255 };
-        table[at + 3] = if kind == 8 { 0 } else { 255 };
-        node += 1;
+        table[at..at + 4].copy_from_slice(&[kind, below, low, high]);
     }
     table
 }

@@ -44,7 +44,7 @@ cells_length (v ∷ cs) = omega (arith, length-append (line_of (decimal v) []) (
 -- ---- the report on a message
 
 -- a refusal is one line
-pub report_refused : (tb s : List ℕ) (y : Refusal) → read_whole tb s program_limits ≡ Err y → report_of tb s ≡ refused_line number_of y.reason y.place
+pub report_refused : (tb s : List ℕ) (y : Refusal) → read_whole tb s program_limits ≡ Err y → report_of tb s ≡ refused_line (number_of y.reason) y.place
 unfolding report_of report_lines
 report_refused tb s y e = ap (λ a. report_lines a (scanned (root tb) program_limits s)) e
 
@@ -83,7 +83,7 @@ pub report_fits : (tb s : List ℕ) → length (report_of tb s) ≤ most_bytes
 report_fits tb s = go (read_whole tb s program_limits) refl
   where
     go : (a : Scan) → read_whole tb s program_limits ≡ a → length (report_of tb s) ≤ most_bytes
-    go (Err y) e = omega (arith, ap length (report_refused tb s y e), refused_length number_of y.reason y.place)
+    go (Err y) e = omega (arith, ap length (report_refused tb s y e), refused_length (number_of y.reason) y.place)
     go (Ok (u, n)) e =
         let l = flat cell_line (scanned (root tb) program_limits s) in
         let c = cells_counted tb s u n e in

@@ -1,87 +1,98 @@
 -- Texts put one after another.
-use mathlib.Core.List.{List, ◌++◌, [], ◌∷◌, append_assoc, append-nil}
-use mathlib.Core.Path.{◌≡◌, refl, ap, sym, ◌∙◌, subst}
-use Prim.Native.Nat.{ℕ, ◌+◌, ◌*◌, ◌≤◌, ◌<◌}
-use native.Mathlib.Nat.{add-zero}
-use native.Mathlib.Numerals.{add-one}
-use native.Mathlib.Omega.{arith}
-use lib.ListN.{length, take, get_or, set, length-append, length-take}
-use lib.Seq.{sets, take-suc, take_all}
+use Rattle.std.proofs.Common.{◌≡◌, ℕ, ◌+◌, ◌-◌, ◌*◌, ◌≤◌, ◌<◌, min, Bool, true, false, leb, List, [], ◌∷◌, ◌++◌, length, take, drop, get_or, refl, ap, sym, ◌∙◌, subst, append_assoc, append-nil, arith, add-zero, add-one, take-suc, take_all, take-append-drop, drop-drop, length-append, length-take, length-take-le, leb-true, leb-false, MutBor}
+use Rattle.std.proofs.lemmas.List.Edits.{sets, sets-eq}
 use Rattle.rules.specs.Basics.{flat}
-use Rattle.rules.proofs.Laws.Places.{sets_join, sets_length}
+use Rattle.rules.proofs.Laws.Places.{sets_join, sets_length, sets_out}
 use Rattle.report.specs.Text.{spaced, cell_line}
-use Rattle.report.specs.Puts.{Puts, ended}
+use Rattle.report.specs.Contract.{Contract}
+use Rattle.report.specs.Writer.{Adds, ended}
+use Rattle.report.specs.declared.Writer.{Writer}
 use Rattle.report.proofs.Answers.{cells_length}
 
-pub byte_put : (l m : List ℕ) (at v : ℕ) → m ≡ set l at v → Puts (v ∷ []) at l (at + 1) m
-byte_put l m at v e = record { ends = refl; holds = e }
+-- ---- a text, as far as it goes in
 
-pub put_length : {a l m : List ℕ} {at r : ℕ} → Puts a at l r m → length m ≡ length l
-put_length {a} {l} {m} {at} p = ap length p.holds ∙ sets_length a l at
+-- what reaches the end of the memory is as good as all
+cut_put : (s l : List ℕ) (e n : ℕ) → (n < length s → length l ≤ e + n) → sets l e (take n s) ≡ sets l e s
+cut_put s l e n h = go (leb (length s) n) refl
+  where
+    go : (b : Bool) → leb (length s) n ≡ b → sets l e (take n s) ≡ sets l e s
+    go true q = ap (sets l e) (take_all n s (leb-true (length s) n q))
+    go false q =
+        let less : n < length s = leb-false (length s) n q in
+        let k : length (take n s) ≡ n = length-take-le n s (omega arith) in
+        sym (sets_out (drop n s) (sets l e (take n s)) (e + length (take n s)) (omega (arith, sets_length (take n s) l e, h less)))
+        ∙ sets_join (take n s) (drop n s) l e ∙ ap (sets l e) (take-append-drop n s)
 
--- one text, and another behind it
-pub then : {a b l m k : List ℕ} {at i j : ℕ} → Puts a at l i m → Puts b i m j k → Puts (a ++ b) at l j k
-then {a} {b} {l} {m} {k} {at} {i} {j} p q =
+-- from e on, or from the end of the memory on if that comes first
+near_put : (s l : List ℕ) (e at : ℕ) → at ≡ min e (length l) → sets l at s ≡ sets l e s
+near_put s l e at p = go (leb e (length l)) refl
+  where
+    go : (b : Bool) → leb e (length l) ≡ b → sets l at s ≡ sets l e s
+    go true q = ap (λ (i : ℕ). sets l i s) (omega (arith, leb-true e (length l) q))
+    go false q =
+        let past : length l < e = leb-false e (length l) q in
+        sets_out s l at (omega arith) ∙ sym (sets_out s l e (omega arith))
+
+-- n elements of the text are copied to the part `at..at + n`
+pub copied : (s l t : List ℕ) (e at n : ℕ) → at ≡ min e (length l) → n ≡ min (length s) (length l - at) → t ≡ take n s
+    → take at l ++ (t ++ drop (at + n - at) (drop at l)) ≡ sets l e s
+copied s l t e at n p q r =
+    let k : length (take n s) ≡ n = length-take-le n s (omega arith) in
+    let j : at + n - at ≡ length (take n s) = omega arith in
+    ap (λ (x : List ℕ). take at l ++ (x ++ drop (at + n - at) (drop at l))) r
+    ∙ ap (λ (x : ℕ). take at l ++ (take n s ++ drop x (drop at l))) j
+    ∙ ap (λ (x : List ℕ). take at l ++ (take n s ++ x)) (drop-drop (length (take n s)) at l)
+    ∙ sym (append_assoc (take at l) (take n s) (drop (at + length (take n s)) l))
+    ∙ sym (sets-eq (take n s) l at (omega arith))
+    ∙ cut_put s l at n (λ h. omega arith) ∙ near_put s l e at p
+
+-- ---- one text, and another behind it
+
+pub then : {a b : List ℕ} {u v w : Writer} → Adds a u v → Adds b v w → Adds (a ++ b) u w
+then {a} {b} {u} {v} p q =
     record {
       ends = omega (arith, p.ends, q.ends, length-append a b);
-      holds = q.holds ∙ ap (λ (x : List ℕ). sets x i b) p.holds ∙ ap (λ (x : ℕ). sets (sets l at a) x b) p.ends ∙ sets_join a b l at;
+      holds = q.holds ∙ ap (λ (x : List ℕ). sets x v.end b) p.holds ∙ ap (λ (i : ℕ). sets (sets u.out.now u.end a) i b) p.ends ∙ sets_join a b u.out.now u.end;
+      same_memory = q.same_memory ∙ p.same_memory;
     }
 
-pub same_text : {a b l m : List ℕ} {at r : ℕ} → a ≡ b → Puts a at l r m → Puts b at l r m
-same_text {l = l} {m = m} {at = at} {r = r} e p = subst (λ x. Puts x at l r m) e p
+pub same_text : {a b : List ℕ} {v w : Writer} → a ≡ b → Adds a v w → Adds b v w
+same_text {v = v} {w = w} e p = subst (λ x. Adds x v w) e p
 
--- from the front
-pub put_front : {a l m : List ℕ} {r : ℕ} → Puts a 0 l r m → (r ≡ length a) × (m ≡ sets l 0 a)
-put_front {a} p = (omega (arith, p.ends), p.holds)
+-- the writer is given up, and what it put is what the lent memory holds
+pub given_back : {a k : List ℕ} {o : MutBor (List ℕ)} {w : Writer} → Adds a (record { out = o; end = 0 }) w → (o.ghost_name ≡ w.out.ghost_name → k ≡ w.out.now) → Contract a o.now w.end k
+given_back p h = record { answers = omega (arith, p.ends); writes = h (sym p.same_memory) ∙ p.holds }
 
 -- ---- numbers behind a space
 
 spaced_out : (t : List ℕ) (n c : ℕ) → (t ++ (32 ∷ [])) ++ ended n c ≡ (t ++ spaced n) ++ (c ∷ [])
 spaced_out t n c = append_assoc t (32 ∷ []) (ended n c) ∙ sym (append_assoc t (spaced n) (c ∷ []))
 
-pub then_two : (t : List ℕ) (a b c : ℕ) {l m k : List ℕ} {at i j : ℕ} → Puts (t ++ (32 ∷ [])) at l i m → Puts (ended a 32 ++ ended b c) i m j k
-    → Puts (((t ++ spaced a) ++ spaced b) ++ (c ∷ [])) at l j k
+pub then_two : (t : List ℕ) (a b c : ℕ) {u v w : Writer} → Adds (t ++ (32 ∷ [])) u v → Adds (ended a 32 ++ ended b c) v w → Adds (((t ++ spaced a) ++ spaced b) ++ (c ∷ [])) u w
 then_two t a b c p q =
     let s = t ++ (32 ∷ []) in
     same_text (sym (append_assoc s (ended a 32) (ended b c)) ∙ ap (λ (x : List ℕ). x ++ ended b c) (spaced_out t a 32) ∙ spaced_out (t ++ spaced a) b c) (then p q)
 
--- ---- lists
-
--- the first i of a list, and one more
-take_next : (s : List ℕ) (i : ℕ) → i < length s → take i s ++ (get_or s i 0 ∷ []) ≡ take (i + 1) s
-take_next s i h = sym (take-suc s i 0 h) ∙ ap (λ (x : ℕ). take x s) (sym (add-one i))
-
--- ---- a text byte by byte: one more
-
-pub byte_more : (s l m k : List ℕ) (at i : ℕ) → i < length s → Puts (take i s) at l (at + i) m → k ≡ set m (at + i) (get_or s i 0) → Puts (take (i + 1) s) at l (at + (i + 1)) k
-byte_more s l m k at i h p e =
-    let one_up : at + i + 1 ≡ at + (i + 1) = omega arith in
-    subst (λ (x : ℕ). Puts (take (i + 1) s) at l x k) one_up (same_text (take_next s i h) (then p (byte_put m k (at + i) (get_or s i 0) e)))
-
--- none, and all of them
-pub first_put : (s l : List ℕ) (at : ℕ) → Puts (take 0 s) at l (at + 0) l
-first_put s l at = record { ends = refl; holds = refl }
-
-pub all_put : (s l m : List ℕ) (at i : ℕ) → length s ≤ i → Puts (take i s) at l (at + i) m → Puts s at l (at + i) m
-all_put s l m at i h p = same_text (take_all i s h) p
-
--- ---- lines, cell by cell: one more
+-- ---- lines, cell by cell
 
 flat_append : {A : Type 0} (f : A → List ℕ) (a b : List A) → flat f (a ++ b) ≡ flat f a ++ flat f b
 flat_append f [] b = refl
 flat_append f (x ∷ a) b = ap (λ l. f x ++ l) (flat_append f a b) ∙ sym (append_assoc (f x) (flat f a) (flat f b))
 
-pub cell_more : (s l m k : List ℕ) (at i e r : ℕ) → i < length s → Puts (flat cell_line (take i s)) at l e m → Puts (ended (get_or s i 0) 10) e m r k
-    → Puts (flat cell_line (take (i + 1) s)) at l r k
-unfolding cell_line
-cell_more s l m k at i e r h p q =
-    let line : ended (get_or s i 0) 10 ≡ flat cell_line (get_or s i 0 ∷ []) = sym (append-nil (ended (get_or s i 0) 10)) in
-    same_text (sym (flat_append cell_line (take i s) (get_or s i 0 ∷ [])) ∙ ap (flat cell_line) (take_next s i h)) (then p (same_text line q))
-
 -- none
-pub no_cells : (l : List ℕ) (at : ℕ) → Puts [] at l at l
-no_cells l at = record { ends = sym (add-zero at); holds = refl }
+pub no_cells : (v : Writer) → Adds [] v v
+no_cells v = record { ends = sym (add-zero v.end); holds = refl; same_memory = refl }
+
+-- one more
+pub cell_more : (s : List ℕ) (u v w : Writer) (i : ℕ) → i < length s → Adds (flat cell_line (take i s)) u v → Adds (ended (get_or s i 0) 10) v w
+    → Adds (flat cell_line (take (i + 1) s)) u w
+unfolding cell_line
+cell_more s u v w i h p q =
+    let cell : List ℕ = get_or s i 0 ∷ [] in
+    let line : ended (get_or s i 0) 10 ≡ flat cell_line cell = sym (append-nil (ended (get_or s i 0) 10)) in
+    let next : take i s ++ cell ≡ take (i + 1) s = sym (take-suc s i 0 h) ∙ ap (λ (x : ℕ). take x s) (sym (add-one i)) in
+    same_text (sym (flat_append cell_line (take i s) cell) ∙ ap (flat cell_line) next) (then p (same_text line q))
 
 -- where the lines of the first i cells end
-pub cells_end : (s l m : List ℕ) (at i e : ℕ) → i ≤ length s → Puts (flat cell_line (take i s)) at l e m → e ≤ at + 21 * i
-cells_end s l m at i e h p = omega (arith, p.ends, cells_length (take i s), length-take i s)
+pub cells_end : (s : List ℕ) (v w : Writer) (i : ℕ) → i ≤ length s → Adds (flat cell_line (take i s)) v w → w.end ≤ v.end + 21 * i
+cells_end s v w i h p = omega (arith, p.ends, cells_length (take i s), length-take i s)

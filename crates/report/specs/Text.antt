@@ -51,7 +51,7 @@ cell_line v = line_of (decimal v) []
 
 unfoldable pub report_lines : Scan → List ℕ → List ℕ
 report_lines (Ok (u, n)) cs = ok_line u n ++ flat cell_line cs
-report_lines (Err y) cs = refused_line number_of y.reason y.place
+report_lines (Err y) cs = refused_line (number_of y.reason) y.place
 
 -- D, M and C of the program
 abbrev pub program_limits : Limits

@@ -2,6 +2,7 @@
 #![tactic(auto)]
 
 ghost use Rattle.io.specs.Counts.{IsPrefixLen};
+ghost use Rattle.std.specs.Prelude.{IfSome};
 ghost use Rattle.std.specs.Io.{ReadsAtMost};
 
 use report::MOST;
@@ -14,19 +15,8 @@ const TABLE_MOST: usize = 262;
 
 const MESSAGE_MOST: usize = 32768;
 
-// Whether a file is there and not too large, and how many bytes it has; 0 if it is not.
-#[derive(Clone, Copy)]
-struct File {
-    usable: bool,
-    size: usize,
-}
-
-const UNUSABLE: File = File {
-    usable: false,
-    size: 0,
-};
-
-// Reads until `space` is full or the file ends, and answers how many bytes it put at the front of `space`.
+// Reads until `space` is full or the file ends, and answers how many bytes it put at the front of `space`. Its loop stands since `read_exact` fails at a file that
+// ends before, and `read_to_end` fills a `Vec`, which allocates.
 fn read_full(file: &mut impl Read, space: &mut [u8]) -> io::Result<usize>
     ensures { ReadsAtMost result space.new }
 {
@@ -41,21 +31,17 @@ fn read_full(file: &mut impl Read, space: &mut [u8]) -> io::Result<usize>
     Ok(done)
 }
 
-// Reads a file into `space`, which is as long as the file may be. One more read tells whether the file ends there: it finds a byte if the file is too large. A
-// file that can't be read, as a folder can't, fails at its first read.
-fn load(rt: &impl Files, name: &str, space: &mut [u8]) -> File
-    ensures { IsPrefixLen result.size space.new }
+// Reads a file into `space`, which is as long as the file may be, and answers how many bytes it has, or `None` where it is missing or too large. One more read tells
+// whether the file ends there: it finds a byte if the file is too large. A file that can't be read, as a folder can't, fails at its first read.
+fn load(rt: &impl Files, name: &str, space: &mut [u8]) -> Option<usize>
+    ensures { IfSome result (λ size. IsPrefixLen size space.new) }
 {
-    let Ok(mut file) = fs::open(rt, name) else {
-        return UNUSABLE;
-    };
-    let Ok(size) = read_full(&mut file, space) else {
-        return UNUSABLE;
-    };
+    let mut file = fs::open(rt, name).ok()?;
+    let size = read_full(&mut file, space).ok()?;
     let mut next = [0u8; 1];
     match file.read(&mut next) {
-        Ok(0) => File { usable: true, size },
-        _ => UNUSABLE,
+        Ok(0) => Some(size),
+        _ => None,
     }
 }
 
@@ -63,16 +49,12 @@ fn load(rt: &impl Files, name: &str, space: &mut [u8]) -> File
 fn main(rt: HostRuntime) {
     let mut table = [0u8; TABLE_MOST];
     let mut message = [0u8; MESSAGE_MOST];
-    let first = load(&rt, "wave.wtd", &mut table);
-    let second = load(&rt, "wave.scl", &mut message);
+    let table_size = load(&rt, "wave.wtd", &mut table);
+    let message_size = load(&rt, "wave.scl", &mut message);
     let mut text = [0u8; MOST];
-    if !first.usable || !second.usable {
-        let length = report::report_unreadable(&mut text);
-        let _ = rt.write_all(&text[..length]);
-        return;
-    }
-    let t = first.size;
-    let m = second.size;
-    let length = report::report(&table[..t], &message[..m], &mut text);
+    let length = match (table_size, message_size) {
+        (Some(t), Some(m)) => report::report(&table[..t], &message[..m], &mut text),
+        _ => report::report_unreadable(&mut text),
+    };
     let _ = rt.write_all(&text[..length]);
 }
