@@ -1,8 +1,8 @@
 -- Laws of nodes of footprint 0, which have only units: how many they have, and what a caller finds at a node's place among the numbers of a table.
-use Rattle.std.specs.Prelude.{Bool, List, ◌≡◌, ℕ, zero, suc, ◌+◌, ◌-◌, ◌*◌, ◌^◌, ◌≤◌, ◌<◌, min, get_or}
+use Rattle.std.specs.Prelude.{Bool, List, ◌≡◌, ℕ, zero, suc, ◌+◌, ◌-◌, ◌*◌, ◌/◌, ◌^◌, ◌≤◌, ◌<◌, min, get_or}
 use Rattle.std.proofs.Math.Bool.{true, false}
 use Rattle.std.proofs.Math.Path.{refl, ap}
-use Rattle.std.proofs.Common.{sym, ◌∙◌, subst, eqb-true, eq-eqb, arith}
+use Rattle.std.proofs.Common.{sym, ◌∙◌, subst, eqb-true, eq-eqb, div-lt_iff_lt-mul, le-div_iff_mul-le, arith}
 use Rattle.std.proofs.Math.Decide.{dec_le}
 use Rattle.std.proofs.Math.Nat.{one-le-mul, min-eq_left}
 use Rattle.std.proofs.Math.Dec.{eqb}
@@ -40,6 +40,14 @@ kept_array n x h = go (dec_le x most)
     go : Dec (x ≤ most) → kept (n * kept x + (n - 1)) ≡ kept (n * x + (n - 1))
     go (yes p) = rw (min-eq_left p)
     go (no p) = rw (kept_most x (omega arith), kept_most (n * most + (n - 1)) (omega (arith, at_least n most h)), kept_most (n * x + (n - 1)) (omega (arith, at_least n x h)))
+
+-- whether they fit is seen by a division
+module _ (n x : ℕ) (h : 1 ≤ n) where
+  pub array_most : (most - (n - 1)) / n < x → kept (n * x + (n - 1)) ≡ most
+  array_most d = kept_most (n * x + (n - 1)) (omega (arith, (div-lt_iff_lt-mul h).0 d))
+
+  pub array_fits : n ≤ 2 ^ 64 → x ≤ (most - (n - 1)) / n → n * x + (n - 1) ≤ most
+  array_fits b d = omega (arith, (le-div_iff_mul-le h).0 d)
 
 -- without the first of all
 past_first : (n x : ℕ) → 1 ≤ n → 1 ≤ x → n * (x - 1) + (n - 1) ≡ n * x - 1
