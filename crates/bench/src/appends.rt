@@ -1,8 +1,8 @@
 // Appends to a vector of bytes.
 use crate::report::{Tally, say_plan, say_refusal};
-use rules::Written;
+use rules::Answer;
 
-fn append(buffer: &mut [u8], used: usize, k: u64, cells: &[u64]) -> Written {
+fn append(buffer: &mut [u8], used: usize, k: u64, cells: &[u64]) -> Answer<usize> {
     let table = b"WTD\x01\x00\x02\x03\x01\x00\x00\x0a\x00\x00\x00";
     encode_append::append(table, buffer, used, k, cells)
 }
@@ -16,28 +16,13 @@ fn accepts(
     new_used: usize,
     after: &[u8],
 ) -> bool {
-    match append(buffer, used, k, cells) {
-        Written::Refused(_) => false,
-        Written::Bytes(n) => {
-            if n != new_used {
-                return false;
-            }
-            &*buffer == after
-        }
-    }
+    append(buffer, used, k, cells) == Ok(new_used) && &*buffer == after
 }
 
 // Is it refused because the count would be too large, and is the buffer as it was?
 fn refuses(buffer: &mut [u8], used: usize, k: u64, cells: &[u64], before: &[u8]) -> bool {
-    match append(buffer, used, k, cells) {
-        Written::Bytes(_) => false,
-        Written::Refused(y) => {
-            if y.number != rules::APPEND_COUNT {
-                return false;
-            }
-            &*buffer == before
-        }
-    }
+    let refused = append(buffer, used, k, cells).is_err_and(|y| u32::from(y.reason) == 33);
+    refused && &*buffer == before
 }
 
 // The bytes 1 to 63 behind a head of one byte.
@@ -76,7 +61,7 @@ fn full_and_one(rt: &impl Print, tally: Tally) -> Tally {
     let mut buffer = [0x03, 0xff, 0xff, 0xff, 0xff, 0xee, 0xee, 0xee];
     let same = refuses(&mut buffer, 5, 1, &[200], head);
     say_plan(rt, same, b"full count and one more");
-    say_refusal(rt, rules::APPEND_COUNT);
+    say_refusal(rt, 33);
     tally.with(rt, same)
 }
 

@@ -1,5 +1,5 @@
 // Running a plan, and comparing what comes out with what stands in the plan.
-use rules::{Limits, Refusal, Scan, Totals, Written};
+use rules::{Limits, Refusal, Totals};
 
 // The limits that the program `wave` reads with.
 pub(crate) fn usual() -> Limits {
@@ -29,15 +29,7 @@ fn hold(lent: &[u64], cells: &[u64]) -> bool {
 
 // Does writing take all of the output, and is this the message then?
 fn writes_in(table: &[u8], cells: &[u64], message: &[u8], out: &mut [u8]) -> bool {
-    match encode::write(table, cells, out) {
-        Written::Refused(_) => false,
-        Written::Bytes(n) => {
-            if n != out.len() {
-                return false;
-            }
-            &*out == message
-        }
-    }
+    encode::write(table, cells, out) == Ok(out.len()) && &*out == message
 }
 
 // Are the cells written as the message, into an output of just its length?
@@ -50,11 +42,6 @@ fn writes(table: &[u8], cells: &[u64], message: &[u8]) -> bool {
     writes_in(table, cells, message, &mut out[..n])
 }
 
-// Do these totals stand in the plan?
-fn is_counted(totals: Totals, cells: usize, charge: u64, depth: u32) -> bool {
-    totals.cells == cells as u64 && totals.charge == charge && totals.depth == depth
-}
-
 // Is the whole message read as the cells, with this charge and depth?
 fn reads(
     table: &[u8],
@@ -65,18 +52,13 @@ fn reads(
     depth: u32,
 ) -> bool {
     let mut lent = [9u64; 8];
-    match decode::read_whole(table, message, limits, &mut lent) {
-        Scan::Refused(_) => false,
-        Scan::Done(totals, used) => {
-            if used != message.len() {
-                return false;
-            }
-            if !is_counted(totals, cells.len(), charge, depth) {
-                return false;
-            }
-            hold(&lent, cells)
-        }
-    }
+    let totals = Totals {
+        depth,
+        charge,
+        cells: cells.len() as u64,
+    };
+    let answer = decode::read_whole(table, message, limits, &mut lent);
+    answer == Ok((totals, message.len())) && hold(&lent, cells)
 }
 
 // Is it so, and are the cells written as the message?
@@ -88,38 +70,22 @@ pub(crate) fn reads_and_writes(
     charge: u64,
     depth: u32,
 ) -> bool {
-    if !reads(table, message, limits, cells, charge, depth) {
-        return false;
-    }
-    writes(table, cells, message)
+    reads(table, message, limits, cells, charge, depth) && writes(table, cells, message)
 }
 
 // No plan's refusal has a place.
 fn is_refusal(y: Refusal, number: u32) -> bool {
-    if y.place != 0 {
-        return false;
-    }
-    y.number == number
+    y.place == 0 && u32::from(y.reason) == number
 }
 
 // Is the message refused, and are the lent cells as they were? The first is 9, and so are all behind it.
 pub(crate) fn refuses(table: &[u8], message: &[u8], limits: Limits, number: u32) -> bool {
     let mut lent = [9u64; 8];
-    match decode::read_whole(table, message, limits, &mut lent) {
-        Scan::Done(_, _) => false,
-        Scan::Refused(y) => {
-            if !is_refusal(y, number) {
-                return false;
-            }
-            hold(&lent, &[9])
-        }
-    }
+    let answer = decode::read_whole(table, message, limits, &mut lent);
+    answer.is_err_and(|y| is_refusal(y, number)) && hold(&lent, &[9])
 }
 
 // Is it refused where no cells are lent, so that C is as large as it says?
 pub(crate) fn refuses_unlent(table: &[u8], message: &[u8], limits: Limits, number: u32) -> bool {
-    match decode::measure_whole(table, message, limits) {
-        Scan::Refused(y) => is_refusal(y, number),
-        Scan::Done(_, _) => false,
-    }
+    decode::measure_whole(table, message, limits).is_err_and(|y| is_refusal(y, number))
 }

@@ -2,27 +2,12 @@
 use crate::checks::{reads_and_writes, refuses, usual};
 use crate::report::{Tally, say, say_bytes, say_plan, say_refusal, say_width};
 use compact::Reading;
-use rules::Width;
+use rules::{Halves, Reason, Width};
 
 // The table of one compact number.
 fn table_of(width: Width) -> [u8; 10] {
     let size = compact::size(width);
     [b'W', b'T', b'D', 1, 0, 1, 4, size, 0, 0]
-}
-
-fn is_value(answer: Reading, value: u64, length: usize) -> bool {
-    match answer {
-        Reading::Value { low, high, used } => {
-            if high != 0 {
-                return false;
-            }
-            if used != length {
-                return false;
-            }
-            low == value
-        }
-        _ => false,
-    }
 }
 
 // A value of 128 bits has two cells.
@@ -37,11 +22,9 @@ fn table_accepts(width: Width, bytes: &[u8], value: u64) -> bool {
 // Are the bytes read as the value, and the value written as the bytes?
 #[tactic(auto, using(compact_put::specs::Laws::written_room))]
 fn accepts(width: Width, bytes: &[u8], value: u64) -> bool {
-    if !is_value(compact::read(bytes, width), value, bytes.len()) {
-        return false;
-    }
-    let encoded = compact_put::write(value, 0);
-    &encoded.bytes[..encoded.len] == bytes
+    let value = Halves::from(value);
+    let encoded = compact_put::write(value);
+    compact::read(bytes, width) == Ok((value, bytes.len())) && &encoded.bytes[..encoded.len] == bytes
 }
 
 fn say_compact(rt: &impl Print, same: bool, name: &[u8], width: Width, how: &[u8], bytes: &[u8]) {
@@ -70,14 +53,8 @@ fn accepted(
 
 fn number_of(answer: Reading) -> u32 {
     match answer {
-        Reading::Value {
-            low: _,
-            high: _,
-            used: _,
-        } => 0,
-        Reading::Short => rules::SHORT,
-        Reading::Prefix => rules::COMPACT_PREFIX,
-        Reading::Range => rules::COMPACT_RANGE,
+        Ok(_) => 0,
+        Err(fault) => Reason::from(fault).into(),
     }
 }
 

@@ -1,7 +1,7 @@
 // Readings that a wrong port would get wrong, or would never finish. Each prints the line that the program `wave` would begin with.
 #![tactic(auto)]
 
-use rules::{Limits, Scan};
+use rules::{Answer, Limits, Totals};
 
 // What can't be written is left out, and the run goes on.
 fn say(rt: &impl Print, text: &[u8]) {
@@ -12,18 +12,18 @@ fn number(rt: &impl Print, n: u64) {
     let _ = print!(rt; " {n}");
 }
 
-fn print(rt: &impl Print, answer: Scan) {
+fn print(rt: &impl Print, answer: Answer<(Totals, usize)>) {
     match answer {
-        Scan::Done(totals, used) => {
+        Ok((totals, used)) => {
             say(rt, b"ok");
             number(rt, used as u64);
             number(rt, totals.cells);
             number(rt, totals.charge);
             number(rt, totals.depth as u64);
         }
-        Scan::Refused(y) => {
+        Err(y) => {
             say(rt, b"refused");
-            number(rt, y.number as u64);
+            number(rt, u32::from(y.reason) as u64);
             number(rt, y.place as u64);
         }
     }

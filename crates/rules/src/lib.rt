@@ -91,7 +91,7 @@ pub fn refuse<T>(reason: Reason, place: usize) -> Answer<T>
 }
 
 // D, M and C.
-#[derive(Clone, Copy)]
+#[derive(Clone, Copy, PartialEq, Eq, Debug)]
 pub struct Limits {
     pub depth: u32,
     pub memory: u64,
@@ -99,7 +99,7 @@ pub struct Limits {
 }
 
 // What was met so far: the deepest level, the charge, how many cells.
-#[derive(Clone, Copy)]
+#[derive(Clone, Copy, PartialEq, Eq, Debug)]
 pub struct Totals {
     pub depth: u32,
     pub charge: u64,
