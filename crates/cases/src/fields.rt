@@ -1,4 +1,6 @@
 // The fields of a body, cut off its front one after another. A number has one, four or eight bytes; a blob and cells have their length in bytes before them.
+ghost use Rattle.std.specs.Prelude.{◌≡◌, ◌≤◌, length, IfOk};
+
 use crate::Failure;
 use crate::memory::{Bytes, Cells, MOST_BYTES, bytes_from, cells_from};
 use rules::Limits;
@@ -14,7 +16,9 @@ impl<'a> Fields<'a> {
         Fields { rest: body }
     }
 
-    fn cut(&mut self, n: usize) -> Result<&'a [u8], Failure> {
+    fn cut(&mut self, n: usize) -> Result<&'a [u8], Failure>
+        ensures { IfOk result (λ field. length field.now ≡ n) }
+    {
         let (field, rest) = self.rest.split_at_checked(n).ok_or(Failure::Misfit)?;
         self.rest = rest;
         Ok(field)
@@ -51,7 +55,9 @@ impl<'a> Fields<'a> {
         })
     }
 
-    pub(crate) fn blob(&mut self) -> Result<&'a [u8], Failure> {
+    pub(crate) fn blob(&mut self) -> Result<&'a [u8], Failure>
+        ensures { IfOk result (λ field. length field.now ≤ 2048) }
+    {
         let length = self.four_bytes()? as usize;
         if MOST_BYTES < length {
             return Err(Failure::Misfit);
@@ -61,7 +67,7 @@ impl<'a> Fields<'a> {
 
     // A blob, as memory to lend.
     pub(crate) fn memory(&mut self) -> Result<Bytes, Failure> {
-        bytes_from(self.blob()?)
+        Ok(bytes_from(self.blob()?))
     }
 
     pub(crate) fn cells(&mut self) -> Result<Cells, Failure> {

@@ -1,5 +1,5 @@
-// Test cases of the written rules: what a case's body holds, and running it through the public functions. A case tells the arguments and then the answer, so its
-// outcome is whether every field of the answer, and all memory that was lent, came back as the case says.
+// Test cases of the written rules: what a case's body holds, and running it through the public functions. A case tells the arguments and then the answer, so
+// its outcome is whether every field of the answer, and all memory that was lent, came back as the case says.
 #![tactic(auto)]
 
 mod fields;
@@ -9,7 +9,8 @@ mod ops;
 pub use ops::run;
 use std::fmt;
 
-// The longest body that the bounds of the format allow: that of a read, with a table and a message of 2,048 bytes each, 512 cells twice, and 62 bytes of numbers.
+// The longest body that the bounds of the format allow: that of a read, with a table and a message of 2,048 bytes each, 512 cells twice, and 62 bytes of
+// numbers.
 pub const LONGEST_BODY: usize = 2 * (4 + 2048) + 2 * (4 + 4096) + 62;
 
 // What a case runs. A case says it by its number.

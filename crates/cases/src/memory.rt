@@ -1,5 +1,5 @@
 // The memory that a case lends: room for the longest that the format allows, of which so much is used.
-ghost use Rattle.std.specs.Prelude.{◌≡◌, ◌≤◌, length};
+ghost use Rattle.std.specs.Prelude.{◌≤◌, length};
 
 use crate::Failure;
 
@@ -31,14 +31,14 @@ impl<T, const N: usize> Lent<T, N> {
     }
 }
 
-// A copy of the bytes of a field, none of which is longer than the bound.
-pub(crate) fn bytes_from(bytes: &[u8]) -> Result<Bytes, Failure> {
+// A copy of the bytes of a field.
+pub(crate) fn bytes_from(bytes: &[u8]) -> Bytes
+    requires { length bytes.now ≤ 2048 }
+{
     let used = bytes.len();
     let mut room = [0; MOST_BYTES];
-    room.get_mut(..used)
-        .ok_or(Failure::Misfit)?
-        .copy_from_slice(bytes);
-    Ok(Lent { room, used })
+    room[..used].copy_from_slice(bytes);
+    Lent { room, used }
 }
 
 // The cells that the bytes of a field say, eight to a cell.

@@ -98,6 +98,7 @@ fn width_of(size: u64) -> Named {
     }
 }
 
+// The width that the next field names.
 fn width(fields: &mut Fields) -> Result<Width, Failure> {
     match width_of(fields.number(1)?) {
         Named::Nothing => Err(Failure::Misfit),

@@ -1,5 +1,5 @@
-// Runs the cases of the file vectors.hrv, which stands in the working folder, and says how many there are and how many differ. A case at a time is read, so a file
-// of any size will do. A file that is damaged is given up there, and the last line says why.
+// Runs the cases of the file vectors.hrv, which stands in the working folder, and says how many there are and how many differ. A case at a time is read, so a
+// file of any size will do. A file that is damaged is given up there, and the last line says why.
 #![tactic(auto)]
 
 mod names;

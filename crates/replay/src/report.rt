@@ -29,6 +29,7 @@ impl fmt::Display for Tally {
     }
 }
 
+// Each field of an answer has a name.
 fn say_difference(rt: &impl Print, index: u64, op: Op, field: usize) {
     let name = names_of(op).get(field).copied().unwrap_or("");
     let _ = println!(rt; "case {index} op {op}: {name}");
