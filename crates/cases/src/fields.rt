@@ -1,119 +1,86 @@
-// The fields of a body. A form says what they are, a letter for each: 1, 4 and 8 are numbers of so many bytes, b is a blob and c are cells.
-ghost use Rattle.std.specs.Prelude.{◌≤◌, ◌<◌, length};
+// The fields of a body, cut off its front one after another. A number has one, four or eight bytes; a blob and cells have their length in bytes before them.
+ghost use Rattle.std.specs.Prelude.{◌≡◌, ◌≤◌, length, IfOk};
 
-// No op has more fields.
-const MOST_FIELDS: usize = 14;
+use crate::Failure;
+use crate::memory::{Bytes, Cells, MOST_BYTES, bytes_from, cells_from};
+use rules::Limits;
 
-// The bounds of the format.
-pub(crate) const MOST_BYTES: usize = 2048;
-
-pub(crate) const MOST_CELLS: usize = 512;
-
-// What is said of a field beyond the bounds: no body has room for it.
-const TOO_LONG: usize = 0xffff_ffff_ffff_ffff;
-
-// Where the fields of a body stand: field i from `from[i]` to `to[i]`. They mean something only if they `fit`: if the body is just these fields.
-#[derive(Clone, Copy)]
-pub(crate) struct Fields {
-    pub fit: bool,
-    pub from: [usize; 14],
-    pub to: [usize; 14],
+// What is left of a body.
+#[derive(Drop)]
+pub(crate) struct Fields<'a> {
+    rest: &'a [u8],
 }
 
-// How many bytes say a field's length.
-fn head(kind: u8) -> usize
-    ensures { result ≤ 4 }
-{
-    match kind {
-        b'b' => 4,
-        b'c' => 4,
-        _ => 0,
+impl<'a> Fields<'a> {
+    pub(crate) fn new(body: &'a [u8]) -> Self {
+        Fields { rest: body }
     }
-}
 
-fn bounded(length: usize, most: usize) -> usize {
-    if length <= most { length } else { TOO_LONG }
-}
+    fn cut(&mut self, n: usize) -> Result<&'a [u8], Failure>
+        ensures { IfOk result (λ field. length field.now ≡ n) }
+    {
+        let (field, rest) = self.rest.split_at_checked(n).ok_or(Failure::Misfit)?;
+        self.rest = rest;
+        Ok(field)
+    }
 
-// How many bytes a field has without its head, if it stands at the front of `rest`.
-fn size(kind: u8, rest: &[u8]) -> usize {
-    match kind {
-        b'1' => 1,
-        b'4' => 4,
-        b'8' => 8,
-        b'b' => bounded(number::word(rest, 4) as usize, MOST_BYTES),
-        _ => {
-            let length = number::word(rest, 4) as usize;
-            if length % 8 != 0 {
-                return TOO_LONG;
-            }
-            bounded(length, 8 * MOST_CELLS)
+    fn four_bytes(&mut self) -> Result<u32, Failure> {
+        let (field, rest) = self.rest.split_first_chunk().ok_or(Failure::Misfit)?;
+        self.rest = rest;
+        Ok(u32::from_le_bytes(*field))
+    }
+
+    // A number of so many bytes.
+    pub(crate) fn number(&mut self, size: usize) -> Result<u64, Failure> {
+        Ok(number::word(self.cut(size)?, 8))
+    }
+
+    // Numbers in a row, each of so many bytes.
+    pub(crate) fn numbers<const N: usize>(
+        &mut self,
+        sizes: [usize; N],
+    ) -> Result<[u64; N], Failure> {
+        let mut numbers = [0; N];
+        for (number, size) in numbers.iter_mut().zip(&sizes) {
+            *number = self.number(*size)?;
+        }
+        Ok(numbers)
+    }
+
+    pub(crate) fn limits(&mut self) -> Result<Limits, Failure> {
+        Ok(Limits {
+            depth: self.four_bytes()?,
+            memory: self.number(8)?,
+            cells: self.number(8)?,
+        })
+    }
+
+    pub(crate) fn blob(&mut self) -> Result<&'a [u8], Failure>
+        ensures { IfOk result (λ field. length field.now ≤ 2048) }
+    {
+        let length = self.four_bytes()? as usize;
+        if MOST_BYTES < length {
+            return Err(Failure::Misfit);
+        }
+        self.cut(length)
+    }
+
+    // A blob, as memory to lend.
+    pub(crate) fn memory(&mut self) -> Result<Bytes, Failure> {
+        Ok(bytes_from(self.blob()?))
+    }
+
+    pub(crate) fn cells(&mut self) -> Result<Cells, Failure> {
+        let length = self.four_bytes()? as usize;
+        cells_from(self.cut(length)?)
+    }
+
+    // No body has more than its op's fields.
+    pub(crate) fn end(self) -> Result<(), Failure> {
+        if self.rest.is_empty() {
+            Ok(())
+        } else {
+            Err(Failure::Misfit)
         }
     }
-}
-
-// Finds the fields of a form in a body.
-pub(crate) fn split(body: &[u8], form: &[u8]) -> Fields
-    requires { length form.now ≤ 14 }
-{
-    let mut from = [0usize; 14];
-    let mut to = [0usize; 14];
-    let mut end = 0;
-    let mut i = 0;
-    while i < form.len() {
-        let kind = form[i];
-        let start = head(kind);
-        let bytes = size(kind, &body[end..]);
-        let left = body.len() - end;
-        if left < start {
-            return Fields {
-                fit: false,
-                from,
-                to,
-            };
-        }
-        if left - start < bytes {
-            return Fields {
-                fit: false,
-                from,
-                to,
-            };
-        }
-        from[i] = end + start;
-        end = end + start + bytes;
-        to[i] = end;
-        i += 1;
-    }
-    Fields {
-        fit: end == body.len(),
-        from,
-        to,
-    }
-}
-
-// A part of the body, empty where it has no such part.
-fn part(body: &[u8], from: usize, to: usize) -> &[u8] {
-    if body.len() < to {
-        return &body[..0];
-    }
-    if to < from {
-        return &body[..0];
-    }
-    &body[from..to]
-}
-
-// The bytes of field i, without its head.
-pub(crate) fn bytes_at(body: &[u8], fields: Fields, i: usize) -> &[u8]
-    requires { i < 14 }
-{
-    let from = fields.from[i];
-    let to = fields.to[i];
-    part(body, from, to)
-}
-
-// The number that field i says.
-pub(crate) fn number_at(body: &[u8], fields: Fields, i: usize) -> u64
-    requires { i < 14 }
-{
-    number::word(bytes_at(body, fields, i), 8)
 }

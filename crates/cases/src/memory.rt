@@ -1,80 +1,62 @@
-// The memory that a case lends: made from its bytes, and compared with what the case says of it afterwards.
-ghost use Rattle.std.specs.Prelude.{◌≡◌, ◌≤◌, length};
+// The memory that a case lends: room for the longest that the format allows, of which so much is used.
+ghost use Rattle.std.specs.Prelude.{◌≤◌, length};
 
-use crate::fields::{MOST_BYTES, MOST_CELLS};
+use crate::Failure;
 
-// How many cells the bytes of a field say. No field that fits has more than can be lent.
-pub(crate) fn cell_count(bytes: &[u8]) -> usize
-    ensures { result ≤ 512 }
-{
-    let n = bytes.len() / 8;
-    if n < MOST_CELLS { n } else { MOST_CELLS }
+// The bounds of the format.
+pub(crate) const MOST_BYTES: usize = 2048;
+
+pub(crate) const MOST_CELLS: usize = 512;
+
+#[derive(Drop)]
+pub(crate) struct Lent<T, const N: usize> {
+    room: [T; N],
+    used: usize,
+    ghost in_room: { used ≤ N },
 }
 
-pub(crate) fn byte_count(bytes: &[u8]) -> usize
-    ensures { result ≤ 2048 }
-{
-    let n = bytes.len();
-    if n < MOST_BYTES { n } else { MOST_BYTES }
-}
+pub(crate) type Bytes = Lent<u8, MOST_BYTES>;
 
-// The cells that the bytes of a field say, with zeros behind them.
-pub(crate) fn cells_of(bytes: &[u8]) -> [u64; 512]
-    ensures { 512 ≡ length result }
-{
-    let mut cells = [0u64; 512];
-    let n = cell_count(bytes);
-    let mut rest = bytes;
-    let mut i = 0;
-    while i < n {
-        if rest.len() < 8 {
-            return cells;
-        }
-        cells[i] = number::word(rest, 8);
-        rest = &rest[8..];
-        i += 1;
+pub(crate) type Cells = Lent<u64, MOST_CELLS>;
+
+impl<T, const N: usize> Lent<T, N> {
+    pub(crate) fn used(&self) -> &[T] {
+        &self.room[..self.used]
     }
-    cells
+
+    pub(crate) fn used_mut(&mut self) -> &mut [T] {
+        let used = self.used;
+        let room = &mut self.room;
+        &mut room[..][..used]
+    }
 }
 
-// The bytes of a field, with zeros behind them.
-pub(crate) fn bytes_of(bytes: &[u8]) -> [u8; 2048]
-    ensures { 2048 ≡ length result }
+// A copy of the bytes of a field.
+pub(crate) fn bytes_from(bytes: &[u8]) -> Bytes
+    requires { length bytes.now ≤ 2048 }
 {
-    let mut copy = [0u8; 2048];
-    let n = byte_count(bytes);
-    let mut i = 0;
-    while i < n {
-        if bytes.len() <= i {
-            return copy;
-        }
-        copy[i] = bytes[i];
-        i += 1;
-    }
-    copy
+    let used = bytes.len();
+    let mut room = [0; MOST_BYTES];
+    room[..used].copy_from_slice(bytes);
+    Lent { room, used }
 }
 
-// Are the cells just those that the bytes say?
-pub(crate) fn same_cells(cells: &[u64], bytes: &[u8]) -> bool {
-    let mut rest = bytes;
-    let mut i = 0;
-    while i < cells.len() {
-        if rest.len() < 8 {
-            return false;
-        }
-        if number::word(rest, 8) != cells[i] {
-            return false;
-        }
-        rest = &rest[8..];
-        i += 1;
+// The cells that the bytes of a field say, eight to a cell.
+pub(crate) fn cells_from(bytes: &[u8]) -> Result<Cells, Failure> {
+    let used = bytes.len() / 8;
+    if bytes.len() % 8 != 0 || MOST_CELLS < used {
+        return Err(Failure::Misfit);
     }
-    rest.len() == 0
+    let mut room = [0; MOST_CELLS];
+    for (cell, bytes) in room.iter_mut().zip(bytes.chunks_exact(8)) {
+        *cell = number::word(bytes, 8);
+    }
+    Ok(Lent { room, used })
 }
 
 // Is this the compact encoding of the value?
+#[tactic(auto, using(compact_put::specs::Laws::written_room))]
 pub(crate) fn is_encoded(low: u64, high: u64, expected: &[u8]) -> bool {
     let encoded = compact_put::write(low, high);
-    let n = encoded.len;
-    let bytes = encoded.bytes;
-    check::same(&bytes[..n], expected)
+    &encoded.bytes[..encoded.len] == expected
 }

@@ -1,10 +1,10 @@
-// A function for each op: it takes the arguments from the body, calls the op's public function, and compares. The fields are counted from 0; `fields_of` has the
-// forms, and what the fields are stands above each op.
-ghost use Rattle.std.specs.Prelude.{◌≡◌, ◌+◌, ◌≤◌, length};
+// A function for each op: it takes the arguments and the answer from the body, calls the op's public function, and compares. What the fields are stands above
+// each.
+ghost use Rattle.std.specs.Prelude.{◌≡◌, length};
 
-use crate::Outcome;
-use crate::fields::{Fields, bytes_at, number_at, split};
-use crate::memory::{byte_count, bytes_of, cell_count, cells_of, is_encoded, same_cells};
+use crate::fields::Fields;
+use crate::memory::is_encoded;
+use crate::{Failure, Op};
 use compact::Reading;
 use rules::{Check, Limits, Longest, Scan, Width, Written};
 
@@ -60,21 +60,22 @@ fn of_written(answer: Written) -> [u64; 3]
 
 // ---- comparing
 
-// The outcome: whether the numbers are those that the body says in its fields from `first` on, and whether the memory behind them is the same.
-fn compare(body: &[u8], fields: Fields, first: usize, got: &[u64], memory: bool) -> Outcome
-    requires { first + length got.now ≤ 14 }
-{
-    let mut i = 0;
-    while i < got.len() {
-        if number_at(body, fields, first + i) != got[i] {
-            return Outcome::Differs(i);
+// Whether the numbers, and the memory behind them, are those that the body says.
+fn compare<const N: usize>(
+    got: [u64; N],
+    expected: [u64; N],
+    same_memory: bool,
+) -> Result<(), Failure> {
+    for (i, (x, y)) in got.iter().zip(expected.iter()).enumerate() {
+        if *x != *y {
+            return Err(Failure::Differs(i));
         }
-        i += 1;
     }
-    if memory {
-        return Outcome::Same;
+    if same_memory {
+        Ok(())
+    } else {
+        Err(Failure::Differs(N))
     }
-    Outcome::Differs(i)
 }
 
 // ---- compact numbers
@@ -97,15 +98,21 @@ fn width_of(size: u64) -> Named {
     }
 }
 
-// 0 width, 1 bytes; 2 number, 3 low, 4 high, 5 used.
-fn run_compact_read(body: &[u8], fields: Fields) -> Outcome {
-    match width_of(number_at(body, fields, 0)) {
-        Named::Nothing => Outcome::Misfit,
-        Named::Width(width) => {
-            let got = of_reading(compact::read(bytes_at(body, fields, 1), width));
-            compare(body, fields, 2, &got, true)
-        }
+// The width that the next field names.
+fn width(fields: &mut Fields) -> Result<Width, Failure> {
+    match width_of(fields.number(1)?) {
+        Named::Nothing => Err(Failure::Misfit),
+        Named::Width(width) => Ok(width),
     }
+}
+
+// Width, bytes; number, low, high, used.
+fn run_compact_read(mut fields: Fields) -> Result<(), Failure> {
+    let width = width(&mut fields)?;
+    let bytes = fields.blob()?;
+    let expected = fields.numbers([1, 8, 8, 8])?;
+    fields.end()?;
+    compare(of_reading(compact::read(bytes, width)), expected, true)
 }
 
 // Is the value one of the width? Only such a one is ever written.
@@ -120,104 +127,79 @@ fn in_width(low: u64, high: u64, width: Width) -> bool {
 }
 
 // Both the encoding and its length, which is found without it, are compared.
-fn compare_encoding(low: u64, high: u64, expected: &[u8]) -> Outcome {
+fn compare_encoding(low: u64, high: u64, expected: &[u8]) -> Result<(), Failure> {
     if !is_encoded(low, high, expected) {
-        return Outcome::Differs(0);
+        return Err(Failure::Differs(0));
     }
     if compact_put::encoded_len(low, high) != expected.len() {
-        return Outcome::Differs(1);
+        return Err(Failure::Differs(1));
     }
-    Outcome::Same
+    Ok(())
 }
 
-// 0 width, 1 low, 2 high; 3 bytes.
-fn run_compact_write(body: &[u8], fields: Fields) -> Outcome {
-    match width_of(number_at(body, fields, 0)) {
-        Named::Nothing => Outcome::Misfit,
-        Named::Width(width) => {
-            let low = number_at(body, fields, 1);
-            let high = number_at(body, fields, 2);
-            if !in_width(low, high, width) {
-                return Outcome::Misfit;
-            }
-            compare_encoding(low, high, bytes_at(body, fields, 3))
-        }
+// Width, low, high; bytes.
+fn run_compact_write(mut fields: Fields) -> Result<(), Failure> {
+    let width = width(&mut fields)?;
+    let low = fields.number(8)?;
+    let high = fields.number(8)?;
+    let expected = fields.blob()?;
+    fields.end()?;
+    if !in_width(low, high, width) {
+        return Err(Failure::Misfit);
     }
+    compare_encoding(low, high, expected)
 }
 
 // ---- tables
 
-// 0 table; 1 number, 2 place.
-fn run_table_check(body: &[u8], fields: Fields) -> Outcome {
-    let got = of_check(table::check(bytes_at(body, fields, 0)));
-    compare(body, fields, 1, &got, true)
+// Table; number, place.
+fn run_table_check(mut fields: Fields) -> Result<(), Failure> {
+    let table = fields.blob()?;
+    let expected = fields.numbers([1, 8])?;
+    fields.end()?;
+    compare(of_check(table::check(table)), expected, true)
 }
 
-// 0 table; 1 number, 2 place, 3 has, 4 length.
-fn run_longest(body: &[u8], fields: Fields) -> Outcome {
-    let got = of_longest(totals::longest(bytes_at(body, fields, 0)));
-    compare(body, fields, 1, &got, true)
+// Table; number, place, has, length.
+fn run_longest(mut fields: Fields) -> Result<(), Failure> {
+    let table = fields.blob()?;
+    let expected = fields.numbers([1, 8, 1, 8])?;
+    fields.end()?;
+    compare(of_longest(totals::longest(table)), expected, true)
 }
 
 // ---- reading
 
-// The flags of a read.
-const WHOLE: u64 = 1;
-
-const LENT: u64 = 2;
-
-// D has four bytes.
-fn limits_at(body: &[u8], fields: Fields, first: usize) -> Limits
-    requires { first + 3 ≤ 14 }
-{
-    Limits {
-        depth: (number_at(body, fields, first) & 0xffff_ffff) as u32,
-        memory: number_at(body, fields, first + 1),
-        cells: number_at(body, fields, first + 2),
+// Reads as the flags say: 1 for the whole message, 2 for lent cells, and there are cells only where they are lent. Lent cells may be none, and then C is cut to
+// 0: reading without cells is something else.
+fn read(
+    table: &[u8],
+    message: &[u8],
+    limits: Limits,
+    flags: u64,
+    cells: &mut [u64],
+) -> Result<Scan, Failure> {
+    match flags {
+        0 if cells.is_empty() => Ok(decode::measure_front(table, message, limits)),
+        1 if cells.is_empty() => Ok(decode::measure_whole(table, message, limits)),
+        2 => Ok(decode::read_front(table, message, limits, cells)),
+        3 => Ok(decode::read_whole(table, message, limits, cells)),
+        _ => Err(Failure::Misfit),
     }
 }
 
-// Reads as the flags say. Lent cells may be none, and then C is cut to 0: reading without cells is something else.
-fn read(table: &[u8], message: &[u8], limits: Limits, flags: u64, cells: &mut [u64]) -> Scan {
-    if flags == LENT + WHOLE {
-        return decode::read_whole(table, message, limits, cells);
-    }
-    if flags == LENT {
-        return decode::read_front(table, message, limits, cells);
-    }
-    if flags == WHOLE {
-        return decode::measure_whole(table, message, limits);
-    }
-    decode::measure_front(table, message, limits)
-}
-
-// Do the flags mean something, and are there cells only where they are lent?
-fn flags_fit(flags: u64, lent: usize) -> bool {
-    if flags < LENT {
-        return lent == 0;
-    }
-    flags <= LENT + WHOLE
-}
-
-// 0 table, 1 message, 2 D, 3 M, 4 C, 5 flags, 6 cells before; 7 number, 8 place, 9 bytes, 10 cells, 11 charge, 12 depth, 13 cells after.
-fn compare_read(body: &[u8], fields: Fields, flags: u64, cells: &mut [u64]) -> Outcome {
-    let table = bytes_at(body, fields, 0);
-    let message = bytes_at(body, fields, 1);
-    let limits = limits_at(body, fields, 2);
-    let got = of_scan(read(table, message, limits, flags, cells));
-    let same = same_cells(cells, bytes_at(body, fields, 13));
-    compare(body, fields, 7, &got, same)
-}
-
-fn run_read(body: &[u8], fields: Fields) -> Outcome {
-    let flags = number_at(body, fields, 5);
-    let before = bytes_at(body, fields, 6);
-    if !flags_fit(flags, before.len()) {
-        return Outcome::Misfit;
-    }
-    let n = cell_count(before);
-    let mut cells = cells_of(before);
-    compare_read(body, fields, flags, &mut cells[..n])
+// Table, message, D, M, C, flags, cells before; number, place, bytes, cells, charge, depth, cells after.
+fn run_read(mut fields: Fields) -> Result<(), Failure> {
+    let table = fields.blob()?;
+    let message = fields.blob()?;
+    let limits = fields.limits()?;
+    let flags = fields.number(1)?;
+    let mut cells = fields.cells()?;
+    let expected = fields.numbers([1, 8, 8, 8, 8, 8])?;
+    let after = fields.cells()?;
+    fields.end()?;
+    let got = of_scan(read(table, message, limits, flags, cells.used_mut())?);
+    compare(got, expected, cells.used() == after.used())
 }
 
 // ---- writing
@@ -235,101 +217,53 @@ fn size_agrees(answer: Written, expected: u64, place: u64, length: u64, room: us
     }
 }
 
-// 0 table, 1 cells, 2 out before; 3 number, 4 place, 5 length, 6 out after.
-fn compare_size(body: &[u8], fields: Fields, cells: &[u64], room: usize) -> Outcome {
-    let answer = encode::encoded_size(bytes_at(body, fields, 0), cells);
-    let number = number_at(body, fields, 3);
-    let place = number_at(body, fields, 4);
-    let length = number_at(body, fields, 5);
-    if size_agrees(answer, number, place, length, room) {
-        return Outcome::Same;
+// Table, cells, out before; number, place, length, out after.
+fn run_write(mut fields: Fields) -> Result<(), Failure> {
+    let table = fields.blob()?;
+    let cells = fields.cells()?;
+    let mut out = fields.memory()?;
+    let expected = fields.numbers([1, 8, 8])?;
+    let after = fields.blob()?;
+    fields.end()?;
+    let got = of_written(encode::write(table, cells.used(), out.used_mut()));
+    compare(got, expected, out.used() == after)?;
+    let [number, place, length] = expected;
+    let size = encode::encoded_size(table, cells.used());
+    if size_agrees(size, number, place, length, out.used().len()) {
+        Ok(())
+    } else {
+        Err(Failure::Differs(4))
     }
-    Outcome::Differs(4)
-}
-
-fn compare_write(body: &[u8], fields: Fields, cells: &[u64], out: &mut [u8]) -> Outcome {
-    let table = bytes_at(body, fields, 0);
-    let got = of_written(encode::write(table, cells, out));
-    let same = check::same(out, bytes_at(body, fields, 6));
-    match compare(body, fields, 3, &got, same) {
-        Outcome::Same => compare_size(body, fields, cells, out.len()),
-        other => other,
-    }
-}
-
-fn run_write(body: &[u8], fields: Fields) -> Outcome {
-    let given = bytes_at(body, fields, 1);
-    let n = cell_count(given);
-    let cells = cells_of(given);
-    let before = bytes_at(body, fields, 2);
-    let room = byte_count(before);
-    let mut out = bytes_of(before);
-    compare_write(body, fields, &cells[..n], &mut out[..room])
 }
 
 // ---- appending
 
-// 0 table, 1 buffer before, 2 used, 3 k, 4 cells; 5 number, 6 place, 7 used, 8 buffer after.
-fn compare_append(body: &[u8], fields: Fields, cells: &[u64], buffer: &mut [u8]) -> Outcome {
-    let table = bytes_at(body, fields, 0);
-    let used = number_at(body, fields, 2) as usize;
-    let k = number_at(body, fields, 3);
-    let got = of_written(encode_append::append(table, buffer, used, k, cells));
-    let same = check::same(buffer, bytes_at(body, fields, 8));
-    compare(body, fields, 5, &got, same)
-}
-
-fn run_append(body: &[u8], fields: Fields) -> Outcome {
-    let given = bytes_at(body, fields, 4);
-    let n = cell_count(given);
-    let cells = cells_of(given);
-    let before = bytes_at(body, fields, 1);
-    let room = byte_count(before);
-    let mut buffer = bytes_of(before);
-    compare_append(body, fields, &cells[..n], &mut buffer[..room])
+// Table, buffer before, used, k, cells; number, place, used, buffer after.
+fn run_append(mut fields: Fields) -> Result<(), Failure> {
+    let table = fields.blob()?;
+    let mut buffer = fields.memory()?;
+    let used = fields.number(8)? as usize;
+    let k = fields.number(8)?;
+    let cells = fields.cells()?;
+    let expected = fields.numbers([1, 8, 8])?;
+    let after = fields.blob()?;
+    fields.end()?;
+    let got = of_written(encode_append::append(table, buffer.used_mut(), used, k, cells.used()));
+    compare(got, expected, buffer.used() == after)
 }
 
 // ---- all
 
-// The fields of the body of a known op.
-fn fields_of(op: u8, body: &[u8]) -> Fields {
-    match op {
-        1 => split(body, b"1b1888"),
-        2 => split(body, b"188b"),
-        3 => split(body, b"b18"),
-        4 => split(body, b"b1818"),
-        5 => split(body, b"bb4881c188888c"),
-        6 => split(body, b"bcb188b"),
-        _ => split(body, b"bb88c188b"),
-    }
-}
-
-fn run_op(op: u8, body: &[u8], fields: Fields) -> Outcome {
-    match op {
-        1 => run_compact_read(body, fields),
-        2 => run_compact_write(body, fields),
-        3 => run_table_check(body, fields),
-        4 => run_longest(body, fields),
-        5 => run_read(body, fields),
-        6 => run_write(body, fields),
-        _ => run_append(body, fields),
-    }
-}
-
-// Is it an op of this format?
-pub fn known(op: u8) -> bool {
-    1 <= op && op <= 7
-}
-
 // Runs a case, from its op and its body.
-pub fn run(op: u8, body: &[u8]) -> Outcome {
-    if !known(op) {
-        return Outcome::Unknown;
+pub fn run(op: Op, body: &[u8]) -> Result<(), Failure> {
+    let fields = Fields::new(body);
+    match op {
+        Op::CompactRead => run_compact_read(fields),
+        Op::CompactWrite => run_compact_write(fields),
+        Op::TableCheck => run_table_check(fields),
+        Op::Longest => run_longest(fields),
+        Op::Read => run_read(fields),
+        Op::Write => run_write(fields),
+        Op::Append => run_append(fields),
     }
-    let fields = fields_of(op, body);
-    let fit = fields.fit;
-    if !fit {
-        return Outcome::Misfit;
-    }
-    run_op(op, body, fields)
 }

@@ -1,122 +1,64 @@
-// Counting the outcomes, and the lines that are printed.
-use crate::Next;
-use crate::names::say_field;
+// Counting the outcomes, and the lines that are printed. What can't be written is left out, and the run goes on.
+use crate::names::names_of;
+use crate::{Damage, Outcome};
+use cases::Op;
+use std::fmt;
 
 // So many of the cases that differ have a line each.
 const MOST_LINES: u64 = 20;
 
-// What was found so far, and whether there may be more.
-#[derive(Clone, Copy)]
+// What was found so far. Cases of unknown ops are no cases of this format, and not counted among them.
+#[derive(Clone, Copy, Default)]
 pub(crate) struct Tally {
-    pub going: bool,
-    pub cases: u64,
-    pub differ: u64,
-    pub unknown: u64,
+    cases: u64,
+    differ: u64,
+    unknown: u64,
 }
 
-// What can't be written is left out, and the run goes on.
-pub(crate) fn say(rt: &impl Print, text: &[u8]) {
-    let _ = rt.write_all(text);
+impl fmt::Display for Tally {
+    fn fmt<W: fmt::Write>(&self, f: &mut fmt::Formatter<W>) -> fmt::Result {
+        let Tally {
+            cases,
+            differ,
+            unknown,
+        } = *self;
+        if 0 < unknown {
+            writeln!(f, "{unknown} of unknown ops passed over")?;
+        }
+        write!(f, "{cases} cases, {differ} differ")
+    }
 }
 
-fn say_number(rt: &impl Print, n: u64) {
-    let _ = rt.print(n);
-}
-
-fn say_case(rt: &impl Print, index: u64) {
-    say(rt, b"case ");
-    say_number(rt, index);
-}
-
-fn say_op(rt: &impl Print, op: u8) {
-    say(rt, b" op ");
-    say_number(rt, op as u64);
-}
-
-// One more, up to a number that no count reaches.
-fn more(n: u64) -> u64 {
-    if n < 0xffff_ffff_ffff_ffff { n + 1 } else { n }
+// Each field of an answer has a name.
+fn say_difference(rt: &impl Print, index: u64, op: Op, field: usize) {
+    let name = names_of(op).get(field).copied().unwrap_or("");
+    let _ = println!(rt; "case {index} op {op}: {name}");
 }
 
 impl Tally {
-    pub(crate) fn new() -> Self {
-        Tally {
-            going: true,
-            cases: 0,
-            differ: 0,
-            unknown: 0,
-        }
-    }
-
-    // With a case that was run.
-    fn ran(mut self) -> Self {
-        self.cases = more(self.cases);
-        self
-    }
-
-    // With a case that differs.
-    fn differing(mut self, rt: &impl Print, index: u64, op: u8, field: usize) -> Self {
-        self.differ = more(self.differ);
-        if self.differ <= MOST_LINES {
-            say_case(rt, index);
-            say_op(rt, op);
-            say(rt, b": ");
-            say_field(rt, op, field);
-            say(rt, b"\n");
-        }
-        self
-    }
-
-    // With a case that was passed over.
-    fn passing(mut self) -> Self {
-        self.unknown = more(self.unknown);
-        self
-    }
-
-    // At the end of the file. Cases of unknown ops are no cases of this format, and not counted among them.
-    fn finished(mut self, rt: &impl Print) -> Self {
-        if 0 < self.unknown {
-            say_number(rt, self.unknown);
-            say(rt, b" of unknown ops passed over\n");
-        }
-        say_number(rt, self.cases);
-        say(rt, b" cases, ");
-        say_number(rt, self.differ);
-        say(rt, b" differ\n");
-        self.going = false;
-        self
-    }
-
-    // Where the file is given up. What was counted before is not printed: it is no answer.
-    fn given_up(mut self, rt: &impl Print, why: &[u8]) -> Self {
-        say(rt, why);
-        self.going = false;
-        self
-    }
-
-    // With what came at a place in the file.
-    pub(crate) fn with(self, rt: &impl Print, index: u64, next: Next) -> Self {
-        match next {
-            Next::Same => self.ran(),
-            Next::Differs(op, field) => self.ran().differing(rt, index, op, field),
-            Next::Unknown => self.passing(),
-            Next::End => self.finished(rt),
-            Next::Misfit(op) => {
-                say(rt, b"damaged: ");
-                say_case(rt, index);
-                say_op(rt, op);
-                self.given_up(rt, b" has a body that the op doesn't allow\n")
-            }
-            Next::CutOff => {
-                say(rt, b"damaged: ");
-                say_case(rt, index);
-                self.given_up(rt, b" is cut off\n")
-            }
-            Next::Unreadable => {
-                say(rt, b"unreadable: ");
-                say_case(rt, index);
-                self.given_up(rt, b" can't be read\n")
+    // With what a case came to.
+    pub(crate) fn count(&mut self, rt: &impl Print, index: u64, outcome: Outcome) {
+        match outcome {
+            Outcome::Unknown => self.unknown = self.unknown.saturating_add(1),
+            Outcome::Same => self.cases = self.cases.saturating_add(1),
+            Outcome::Differs(op, field) => {
+                self.cases = self.cases.saturating_add(1);
+                self.differ = self.differ.saturating_add(1);
+                if self.differ <= MOST_LINES {
+                    say_difference(rt, index, op, field);
+                }
             }
         }
     }
+}
+
+// Where the file is given up. What was counted before is not printed: it is no answer.
+pub(crate) fn give_up(rt: &impl Print, index: u64, damage: Damage) {
+    let _ = match damage {
+        Damage::Misfit(op) => println!(rt;
+            "damaged: case {index} op {op} has a body that the op doesn't allow"
+        ),
+        Damage::CutOff => println!(rt; "damaged: case {index} is cut off"),
+        Damage::Unreadable => println!(rt; "unreadable: case {index} can't be read"),
+    };
 }
