@@ -2,6 +2,7 @@
 ghost use Rattle.std.specs.Prelude.{◌≤◌, length};
 
 use crate::Failure;
+use rules::Halves;
 
 // The bounds of the format.
 pub(crate) const MOST_BYTES: usize = 2048;
@@ -56,7 +57,7 @@ pub(crate) fn cells_from(bytes: &[u8]) -> Result<Cells, Failure> {
 
 // Is this the compact encoding of the value?
 #[tactic(auto, using(compact_put::specs::Laws::written_room))]
-pub(crate) fn is_encoded(low: u64, high: u64, expected: &[u8]) -> bool {
-    let encoded = compact_put::write(low, high);
+pub(crate) fn is_encoded(value: Halves, expected: &[u8]) -> bool {
+    let encoded = compact_put::write(value);
     &encoded.bytes[..encoded.len] == expected
 }

@@ -1,60 +1,60 @@
 // A function for each op: it takes the arguments and the answer from the body, calls the op's public function, and compares. What the fields are stands above
 // each.
-ghost use Rattle.std.specs.Prelude.{◌≡◌, length};
-
 use crate::fields::Fields;
 use crate::memory::is_encoded;
 use crate::{Failure, Op};
 use compact::Reading;
-use rules::{Check, Limits, Longest, Scan, Width, Written};
+use node::width_of;
+use rules::{Answer, Halves, Limits, Reason, Refusal, Totals, Width};
 
 // ---- what an answer is in numbers, in the order of the fields
 
-fn of_reading(answer: Reading) -> [u64; 4]
-    ensures { 4 ≡ length result }
-{
+fn of_refusal(y: Refusal) -> [u64; 2] {
+    [u32::from(y.reason) as u64, y.place as u64]
+}
+
+fn of_reading(answer: Reading) -> [u64; 4] {
     match answer {
-        Reading::Value { low, high, used } => [0, low, high, used as u64],
-        Reading::Short => [rules::SHORT as u64, 0, 0, 0],
-        Reading::Prefix => [rules::COMPACT_PREFIX as u64, 0, 0, 0],
-        Reading::Range => [rules::COMPACT_RANGE as u64, 0, 0, 0],
+        Ok((value, used)) => [0, value.low, value.high, used as u64],
+        Err(fault) => [u32::from(Reason::from(fault)) as u64, 0, 0, 0],
     }
 }
 
-fn of_check(answer: Check) -> [u64; 2]
-    ensures { 2 ≡ length result }
-{
+fn of_check(answer: Answer<()>) -> [u64; 2] {
     match answer {
-        Check::Fine => [0, 0],
-        Check::Refused(y) => [y.number as u64, y.place as u64],
+        Ok(()) => [0, 0],
+        Err(y) => of_refusal(y),
     }
 }
 
-fn of_longest(answer: Longest) -> [u64; 4]
-    ensures { 4 ≡ length result }
-{
+fn of_longest(answer: Answer<Option<u64>>) -> [u64; 4] {
     match answer {
-        Longest::Bytes(n) => [0, 0, 1, n],
-        Longest::Unbounded => [0, 0, 0, 0],
-        Longest::Refused(y) => [y.number as u64, y.place as u64, 0, 0],
+        Ok(Some(n)) => [0, 0, 1, n],
+        Ok(None) => [0, 0, 0, 0],
+        Err(y) => {
+            let [number, place] = of_refusal(y);
+            [number, place, 0, 0]
+        }
     }
 }
 
-fn of_scan(answer: Scan) -> [u64; 6]
-    ensures { 6 ≡ length result }
-{
+fn of_read(answer: Answer<(Totals, usize)>) -> [u64; 6] {
     match answer {
-        Scan::Done(t, used) => [0, 0, used as u64, t.cells, t.charge, t.depth as u64],
-        Scan::Refused(y) => [y.number as u64, y.place as u64, 0, 0, 0, 0],
+        Ok((t, used)) => [0, 0, used as u64, t.cells, t.charge, t.depth as u64],
+        Err(y) => {
+            let [number, place] = of_refusal(y);
+            [number, place, 0, 0, 0, 0]
+        }
     }
 }
 
-fn of_written(answer: Written) -> [u64; 3]
-    ensures { 3 ≡ length result }
-{
+fn of_written(answer: Answer<usize>) -> [u64; 3] {
     match answer {
-        Written::Bytes(n) => [0, 0, n as u64],
-        Written::Refused(y) => [y.number as u64, y.place as u64, 0],
+        Ok(n) => [0, 0, n as u64],
+        Err(y) => {
+            let [number, place] = of_refusal(y);
+            [number, place, 0]
+        }
     }
 }
 
@@ -80,30 +80,9 @@ fn compare<const N: usize>(
 
 // ---- compact numbers
 
-// A width, if a number names one.
-#[derive(Clone, Copy)]
-enum Named {
-    Width(Width),
-    Nothing,
-}
-
-fn width_of(size: u64) -> Named {
-    match size {
-        1 => Named::Width(Width::W1),
-        2 => Named::Width(Width::W2),
-        4 => Named::Width(Width::W4),
-        8 => Named::Width(Width::W8),
-        16 => Named::Width(Width::W16),
-        _ => Named::Nothing,
-    }
-}
-
 // The width that the next field names.
 fn width(fields: &mut Fields) -> Result<Width, Failure> {
-    match width_of(fields.number(1)?) {
-        Named::Nothing => Err(Failure::Misfit),
-        Named::Width(width) => Ok(width),
-    }
+    width_of(fields.number(1)? as usize).ok_or(Failure::Misfit)
 }
 
 // Width, bytes; number, low, high, used.
@@ -116,22 +95,22 @@ fn run_compact_read(mut fields: Fields) -> Result<(), Failure> {
 }
 
 // Is the value one of the width? Only such a one is ever written.
-fn in_width(low: u64, high: u64, width: Width) -> bool {
+fn in_width(value: Halves, width: Width) -> bool {
     match width {
-        Width::W1 => high == 0 && low >> 8 == 0,
-        Width::W2 => high == 0 && low >> 16 == 0,
-        Width::W4 => high == 0 && low >> 32 == 0,
-        Width::W8 => high == 0,
+        Width::W1 => value.high == 0 && value.low >> 8 == 0,
+        Width::W2 => value.high == 0 && value.low >> 16 == 0,
+        Width::W4 => value.high == 0 && value.low >> 32 == 0,
+        Width::W8 => value.high == 0,
         Width::W16 => true,
     }
 }
 
 // Both the encoding and its length, which is found without it, are compared.
-fn compare_encoding(low: u64, high: u64, expected: &[u8]) -> Result<(), Failure> {
-    if !is_encoded(low, high, expected) {
+fn compare_encoding(value: Halves, expected: &[u8]) -> Result<(), Failure> {
+    if !is_encoded(value, expected) {
         return Err(Failure::Differs(0));
     }
-    if compact_put::encoded_len(low, high) != expected.len() {
+    if compact_put::encoded_len(value) != expected.len() {
         return Err(Failure::Differs(1));
     }
     Ok(())
@@ -140,14 +119,14 @@ fn compare_encoding(low: u64, high: u64, expected: &[u8]) -> Result<(), Failure>
 // Width, low, high; bytes.
 fn run_compact_write(mut fields: Fields) -> Result<(), Failure> {
     let width = width(&mut fields)?;
-    let low = fields.number(8)?;
-    let high = fields.number(8)?;
+    let [low, high] = fields.numbers([8, 8])?;
     let expected = fields.blob()?;
     fields.end()?;
-    if !in_width(low, high, width) {
+    let value = Halves { low, high };
+    if !in_width(value, width) {
         return Err(Failure::Misfit);
     }
-    compare_encoding(low, high, expected)
+    compare_encoding(value, expected)
 }
 
 // ---- tables
@@ -178,7 +157,7 @@ fn read(
     limits: Limits,
     flags: u64,
     cells: &mut [u64],
-) -> Result<Scan, Failure> {
+) -> Result<Answer<(Totals, usize)>, Failure> {
     match flags {
         0 if cells.is_empty() => Ok(decode::measure_front(table, message, limits)),
         1 if cells.is_empty() => Ok(decode::measure_whole(table, message, limits)),
@@ -198,23 +177,18 @@ fn run_read(mut fields: Fields) -> Result<(), Failure> {
     let expected = fields.numbers([1, 8, 8, 8, 8, 8])?;
     let after = fields.cells()?;
     fields.end()?;
-    let got = of_scan(read(table, message, limits, flags, cells.used_mut())?);
+    let got = of_read(read(table, message, limits, flags, cells.used_mut())?);
     compare(got, expected, cells.used() == after.used())
 }
 
 // ---- writing
 
 // Does the size that is found without writing go with the answer that the case says? It is the same answer, but where the output was too small.
-fn size_agrees(answer: Written, expected: u64, place: u64, length: u64, room: usize) -> bool {
-    match answer {
-        Written::Refused(y) => y.number as u64 == expected && y.place as u64 == place,
-        Written::Bytes(n) => {
-            if expected == rules::OUTPUT_SMALL as u64 {
-                return room < n;
-            }
-            expected == 0 && n as u64 == length
-        }
+fn size_agrees(answer: Answer<usize>, expected: [u64; 3], room: usize) -> bool {
+    if let Ok(n) = answer && expected[0] == 22 {
+        return room < n;
     }
+    of_written(answer) == expected
 }
 
 // Table, cells, out before; number, place, length, out after.
@@ -227,9 +201,8 @@ fn run_write(mut fields: Fields) -> Result<(), Failure> {
     fields.end()?;
     let got = of_written(encode::write(table, cells.used(), out.used_mut()));
     compare(got, expected, out.used() == after)?;
-    let [number, place, length] = expected;
     let size = encode::encoded_size(table, cells.used());
-    if size_agrees(size, number, place, length, out.used().len()) {
+    if size_agrees(size, expected, out.used().len()) {
         Ok(())
     } else {
         Err(Failure::Differs(4))
