@@ -1,4 +1,4 @@
-use Rattle.std.proofs.Common.{◌≡◌, ◌+◌, ◌-◌, ◌∙◌, ap, refl, arith, length-take-le, length-drop, drop, replicate}
+use Rattle.std.proofs.Common.{◌≡◌, ◌+◌, ◌-◌, arith, length-take-le, length-drop, drop, replicate}
 use Rattle.meter.proofs.Stores.{zeros_filled}
 use Rattle.meter.proofs.store_zeros.Goals as goal
 
