@@ -1,8 +1,9 @@
 // A bit vector under the limits: its count, 14, depth, memory, room for all its cells at once, and then its bytes.
-ghost use Rattle.std.specs.Prelude.{◌≡◌, ◌+◌, ◌≤◌, ◌<◌, ◌^◌, length};
+ghost use Rattle.std.specs.Prelude.{◌+◌, ◌≤◌, ◌<◌, ◌^◌, length};
 ghost use Rattle.rules.specs.Bits.{words64};
 ghost use Rattle.rules.specs.Refusals.{max_bits};
-ghost use Rattle.rules.specs.Scan.Pass.{pass_at, landed};
+ghost use Rattle.rules.specs.Scan.Landing.{Lands};
+ghost use Rattle.rules.specs.Scan.Pass.{pass_at};
 ghost use Rattle.rules.specs.Scan.Single.{lanes_pass};
 ghost use Rattle.rules.specs.Types.{bits};
 
@@ -20,8 +21,7 @@ fn scan_lanes(
     cells: &mut [u64],
 ) -> Answer<(Totals, usize)>
     requires { (n ≤ max_bits) × (end + length s.now < 2 ^ 64) × (t.cells + words64 n < 2 ^ 64) }
-    ensures answers { result ≡ (lanes_pass n at end s.now t).answer }
-    ensures writes { cells.new ≡ landed cells.old t (lanes_pass n at end s.now t) }
+    ensures { Lands (lanes_pass n at end s.now t) cells.old t result cells.new }
 {
     let used = bit_vec::read(n, at, s, cells, t.cells as usize)?;
     Ok((
@@ -42,8 +42,7 @@ pub(crate) fn scan_bits(
     cells: &mut [u64],
 ) -> Answer<(Totals, usize)>
     requires { (at + length s.now < 2 ^ 64) × (m.totals.cells ≤ m.limits.cells) × (m.limits.cells < 2 ^ 64) }
-    ensures answers { result ≡ (pass_at bits m.limits level at s.now m.totals).answer }
-    ensures writes { cells.new ≡ landed cells.old m.totals (pass_at bits m.limits level at s.now m.totals) }
+    ensures { Lands (pass_at bits m.limits level at s.now m.totals) cells.old m.totals result cells.new }
 {
     let (n, used) = count_from(at, s)?;
     if rules::MAX_BITS < n {

@@ -3,6 +3,7 @@
 #![tactic(auto)]
 
 mod bits;
+mod plan;
 mod single;
 mod walk;
 
@@ -14,9 +15,9 @@ ghost use Rattle.rules.specs.Table.{root};
 ghost use Rattle.scan.specs.Walk.{passed_in};
 
 use meter::Meter;
+use plan::Plan;
 use rules::{Answer, Limits, Totals};
 use table::Checked;
-use walk::Plan;
 
 // The value of the root of a checked table at the front of s, with its cells from the first lent one on.
 fn scan_root(

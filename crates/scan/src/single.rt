@@ -1,6 +1,7 @@
 // A scalar or a tag under the limits.
-ghost use Rattle.std.specs.Prelude.{◌≡◌, ◌+◌, ◌<◌, ◌^◌, length};
-ghost use Rattle.rules.specs.Scan.Pass.{leaf_pass, landed};
+ghost use Rattle.std.specs.Prelude.{◌+◌, ◌<◌, ◌^◌, length};
+ghost use Rattle.rules.specs.Scan.Landing.{Lands};
+ghost use Rattle.rules.specs.Scan.Pass.{leaf_pass};
 
 use leaf::{is_wide, leaf_from};
 use meter::Meter;
@@ -15,8 +16,7 @@ pub(crate) fn scan_leaf(
     cells: &mut [u64],
 ) -> Answer<(Totals, usize)>
     requires { at + length s.now < 2 ^ 64 }
-    ensures answers { result ≡ (leaf_pass leaf m.limits at s.now m.totals).answer }
-    ensures writes { cells.new ≡ landed cells.old m.totals (leaf_pass leaf m.limits at s.now m.totals) }
+    ensures { Lands (leaf_pass leaf m.limits at s.now m.totals) cells.old m.totals result cells.new }
 {
     let (value, used) = leaf_from(leaf, at, s)?;
     let end = at + used;

@@ -1,25 +1,16 @@
 // The table-driven walkers: the item walker calls the walker of the node's kind and is called back, with the table index and the items left falling. A vector's
 // items are a loop, so the stack depends on the table alone, whatever a message counts.
-ghost use Rattle.std.specs.Prelude.{◌≡◌};
-ghost use Rattle.rules.specs.Table.{ty_at, numbers_of, unit_code};
 ghost use Rattle.rules.specs.Types.{option, result as result_type, pair, vector};
-ghost use Rattle.rules.specs.Scan.Pass.{pass_at, items, landed};
-ghost use Rattle.scan.specs.Walk.{Walkable};
+ghost use Rattle.rules.specs.Scan.Landing.{Lands};
+ghost use Rattle.rules.specs.Scan.Pass.{pass_at, items};
+ghost use Rattle.scan.specs.Walk.{Walkable, type_of};
 
 use crate::bits::scan_bits;
+use crate::plan::Plan;
 use crate::single::scan_leaf;
 use leaf::count_from;
 use meter::Meter;
 use rules::{Answer, Leaf, Node, Reason, Totals, refuse};
-use table::Checked;
-
-// What a message is walked by: a checked table, and the units of its nodes. Work is bounded by bytes and cells: items without bytes are counted and not walked.
-#[derive(Drop)]
-pub(crate) struct Plan<'a> {
-    pub(crate) checked: Checked<'a>,
-    pub(crate) units: [u64; 64],
-    pub(crate) ghost unitary: { units ≡ numbers_of unit_code checked.table.now },
-}
 
 impl<'a> Plan<'a> {
     // The item that node `node` describes, at offset `at`, which is where s starts, inside `level` vectors.
@@ -33,9 +24,8 @@ impl<'a> Plan<'a> {
         m: Meter,
         cells: &mut [u64],
     ) -> Answer<(Totals, usize)>
-        requires { Walkable self.now.checked.table.now node at s.now m.limits m.totals }
-        ensures answers { result ≡ (pass_at (ty_at self.now.checked.table.now node) m.limits level at s.now m.totals).answer }
-        ensures writes { cells.new ≡ landed cells.old m.totals (pass_at (ty_at self.now.checked.table.now node) m.limits level at s.now m.totals) }
+        requires { Walkable self.now node at s.now m.limits m.totals }
+        ensures { Lands (pass_at (type_of self.now node) m.limits level at s.now m.totals) cells.old m.totals result cells.new }
     {
         if self.checked.feet[node] == 0 {
             return m.pass_units(at, 1, self.units[node], cells);
@@ -64,9 +54,8 @@ impl<'a> Plan<'a> {
         m: Meter,
         cells: &mut [u64],
     ) -> Answer<(Totals, usize)>
-        requires { Walkable self.now.checked.table.now a at s.now m.limits m.totals }
-        ensures answers { result ≡ (pass_at (option (ty_at self.now.checked.table.now a)) m.limits level at s.now m.totals).answer }
-        ensures writes { cells.new ≡ landed cells.old m.totals (pass_at (option (ty_at self.now.checked.table.now a)) m.limits level at s.now m.totals) }
+        requires { Walkable self.now a at s.now m.limits m.totals }
+        ensures { Lands (pass_at (option (type_of self.now a)) m.limits level at s.now m.totals) cells.old m.totals result cells.new }
     {
         let (totals, end) = scan_leaf(Leaf::Bool, at, s, m, cells)?;
         if s[0] == 0 {
@@ -88,10 +77,9 @@ impl<'a> Plan<'a> {
         m: Meter,
         cells: &mut [u64],
     ) -> Answer<(Totals, usize)>
-        requires first { Walkable self.now.checked.table.now a at s.now m.limits m.totals }
-        requires second { Walkable self.now.checked.table.now b at s.now m.limits m.totals }
-        ensures answers { result ≡ (pass_at (result_type (ty_at self.now.checked.table.now a) (ty_at self.now.checked.table.now b)) m.limits level at s.now m.totals).answer }
-        ensures writes { cells.new ≡ landed cells.old m.totals (pass_at (result_type (ty_at self.now.checked.table.now a) (ty_at self.now.checked.table.now b)) m.limits level at s.now m.totals) }
+        requires first { Walkable self.now a at s.now m.limits m.totals }
+        requires second { Walkable self.now b at s.now m.limits m.totals }
+        ensures { Lands (pass_at (result_type (type_of self.now a) (type_of self.now b)) m.limits level at s.now m.totals) cells.old m.totals result cells.new }
     {
         let (totals, end) = scan_leaf(Leaf::Bool, at, s, m, cells)?;
         let chosen = if s[0] == 0 { a } else { b };
@@ -111,10 +99,9 @@ impl<'a> Plan<'a> {
         m: Meter,
         cells: &mut [u64],
     ) -> Answer<(Totals, usize)>
-        requires first { Walkable self.now.checked.table.now a at s.now m.limits m.totals }
-        requires second { Walkable self.now.checked.table.now b at s.now m.limits m.totals }
-        ensures answers { result ≡ (pass_at (pair (ty_at self.now.checked.table.now a) (ty_at self.now.checked.table.now b)) m.limits level at s.now m.totals).answer }
-        ensures writes { cells.new ≡ landed cells.old m.totals (pass_at (pair (ty_at self.now.checked.table.now a) (ty_at self.now.checked.table.now b)) m.limits level at s.now m.totals) }
+        requires first { Walkable self.now a at s.now m.limits m.totals }
+        requires second { Walkable self.now b at s.now m.limits m.totals }
+        ensures { Lands (pass_at (pair (type_of self.now a) (type_of self.now b)) m.limits level at s.now m.totals) cells.old m.totals result cells.new }
     {
         let (totals, end) = self.item(a, level, at, s, m, cells)?;
         let next = Meter { totals, ..m };
@@ -132,9 +119,8 @@ impl<'a> Plan<'a> {
         m: Meter,
         cells: &mut [u64],
     ) -> Answer<(Totals, usize)>
-        requires { Walkable self.now.checked.table.now a at s.now m.limits m.totals }
-        ensures answers { result ≡ (pass_at (vector (ty_at self.now.checked.table.now a)) m.limits level at s.now m.totals).answer }
-        ensures writes { cells.new ≡ landed cells.old m.totals (pass_at (vector (ty_at self.now.checked.table.now a)) m.limits level at s.now m.totals) }
+        requires { Walkable self.now a at s.now m.limits m.totals }
+        ensures { Lands (pass_at (vector (type_of self.now a)) m.limits level at s.now m.totals) cells.old m.totals result cells.new }
     {
         let (n, used) = count_from(at, s)?;
         let charge = n * self.checked.feet[a];
@@ -155,9 +141,8 @@ impl<'a> Plan<'a> {
         m: Meter,
         cells: &mut [u64],
     ) -> Answer<(Totals, usize)>
-        requires { Walkable self.now.checked.table.now node at s.now m.limits m.totals }
-        ensures answers { result ≡ (items count (pass_at (ty_at self.now.checked.table.now node) m.limits level) at s.now m.totals).answer }
-        ensures writes { cells.new ≡ landed cells.old m.totals (items count (pass_at (ty_at self.now.checked.table.now node) m.limits level) at s.now m.totals) }
+        requires { Walkable self.now node at s.now m.limits m.totals }
+        ensures { Lands (items count (pass_at (type_of self.now node) m.limits level) at s.now m.totals) cells.old m.totals result cells.new }
     {
         if self.checked.feet[node] == 0 {
             return m.pass_units(at, count, self.units[node], cells);

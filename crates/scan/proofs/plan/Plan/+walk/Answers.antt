@@ -13,65 +13,65 @@ use Rattle.rules.specs.declared.Width.TheVariants.{W4 as w4}
 use Rattle.leaf.specs.Laws.{count_got, count_bad}
 use Rattle.rules.proofs.Laws.Scan.Landing.{stops, same_pass_as}
 use Rattle.scan.proofs.Walking.{then_stops, walk_node, walk_behind, walk_items, walk_units, walk_unit, children, by_kind, tag_held, tag_in, tag_first, tag_second, tag_alone, item_held, pair_goes, charge_lt, vector_stops, entered, vector_goes, loop_done, loop_stops, loop_goes}
-use Rattle.scan.proofs.walk.Plan.+walk.Goals as goal
-use Rattle.scan.proofs.walk.Plan.+walk.Goals.{result-then-s-eq0, result-else-s-eq0, vector-In_ok-n}
+use Rattle.scan.proofs.plan.Plan.+walk.Goals as goal
+use Rattle.scan.proofs.plan.Plan.+walk.Goals.{result-then-s-eq0, result-else-s-eq0, vector-In_ok-n}
 
 -- ---- an item
 
 pub item-returns-then-self-node-eq0 : goal.item-returns-then-self-node-eq0
 item-returns-then-self-node-eq0 t c =
-    same_pass_as _ _ _ _ _ _ (walk_unit c.args.self.now c.requires _ c.if-self-node-eq0.true) c.pass_units.ensures
+    same_pass_as _ _ _ _ _ _ (walk_unit c.requires _ c.if-self-node-eq0.true) c.pass_units.ensures
 
 pub item-option-requires : goal.item-option-requires
 item-option-requires t c =
-    let below = children c.args.self.now c.requires c.node_at.ensures (option_node _) c.in-Option.is in
+    let below = children c.requires c.node_at.ensures (option_node _) c.in-Option.is in
     (omega (arith, below), walk_node c.requires below)
 
 pub item-result-requires : goal.item-result-requires
 item-result-requires t c =
-    let below = children c.args.self.now c.requires c.node_at.ensures (result_node _ _) c.in-Result.is in
+    let below = children c.requires c.node_at.ensures (result_node _ _) c.in-Result.is in
     (omega (arith, below), (walk_node c.requires below.0, walk_node c.requires below.1))
 
 pub item-pair-requires : goal.item-pair-requires
 item-pair-requires t c =
-    let below = children c.args.self.now c.requires c.node_at.ensures (pair_node _ _) c.in-Pair.is in
+    let below = children c.requires c.node_at.ensures (pair_node _ _) c.in-Pair.is in
     (omega (arith, below), (walk_node c.requires below.0, walk_node c.requires below.1))
 
 pub item-items-requires : goal.item-items-requires
 item-items-requires t c =
-    let below = children c.args.self.now c.requires c.node_at.ensures (array_node _ _) c.in-Array.is in
+    let below = children c.requires c.node_at.ensures (array_node _ _) c.in-Array.is in
     (omega (arith, below), walk_node c.requires below)
 
 pub item-vector-requires : goal.item-vector-requires
 item-vector-requires t c =
-    let below = children c.args.self.now c.requires c.node_at.ensures (vector_node _) c.in-Vector.is in
+    let below = children c.requires c.node_at.ensures (vector_node _) c.in-Vector.is in
     (omega (arith, below), walk_node c.requires below)
 
 pub item-returns-in-Leaf : goal.item-returns-in-Leaf
 item-returns-in-Leaf t c =
-    by_kind c.args.self.now c.requires c.node_at.ensures (leaf_node _) c.in-Leaf.is _ _ (same_pass_as _ _ _ _ _ _ (pass_leaf _ _ _ _ _ _) c.scan_leaf.ensures)
+    by_kind c.requires c.node_at.ensures (leaf_node _) c.in-Leaf.is _ _ (same_pass_as _ _ _ _ _ _ (pass_leaf _ _ _ _ _ _) c.scan_leaf.ensures)
 
 pub item-returns-in-Option : goal.item-returns-in-Option
-item-returns-in-Option t c = by_kind c.args.self.now c.requires c.node_at.ensures (option_node _) c.in-Option.is _ _ c.option.ensures
+item-returns-in-Option t c = by_kind c.requires c.node_at.ensures (option_node _) c.in-Option.is _ _ c.option.ensures
 
 pub item-returns-in-Result : goal.item-returns-in-Result
-item-returns-in-Result t c = by_kind c.args.self.now c.requires c.node_at.ensures (result_node _ _) c.in-Result.is _ _ c.result.ensures
+item-returns-in-Result t c = by_kind c.requires c.node_at.ensures (result_node _ _) c.in-Result.is _ _ c.result.ensures
 
 pub item-returns-in-Pair : goal.item-returns-in-Pair
-item-returns-in-Pair t c = by_kind c.args.self.now c.requires c.node_at.ensures (pair_node _ _) c.in-Pair.is _ _ c.pair.ensures
+item-returns-in-Pair t c = by_kind c.requires c.node_at.ensures (pair_node _ _) c.in-Pair.is _ _ c.pair.ensures
 
 pub item-returns-in-Array : goal.item-returns-in-Array
 item-returns-in-Array t c =
-    by_kind c.args.self.now c.requires c.node_at.ensures (array_node _ _) c.in-Array.is _ _ (same_pass_as _ _ _ _ _ _ (pass_array _ _ _ _ _ _ _) c.items.ensures)
+    by_kind c.requires c.node_at.ensures (array_node _ _) c.in-Array.is _ _ (same_pass_as _ _ _ _ _ _ (pass_array _ _ _ _ _ _ _) c.items.ensures)
 
 pub item-returns-in-Vector : goal.item-returns-in-Vector
-item-returns-in-Vector t c = by_kind c.args.self.now c.requires c.node_at.ensures (vector_node _) c.in-Vector.is _ _ c.vector.ensures
+item-returns-in-Vector t c = by_kind c.requires c.node_at.ensures (vector_node _) c.in-Vector.is _ _ c.vector.ensures
 
 pub item-returns-in-Bits : goal.item-returns-in-Bits
-item-returns-in-Bits t c = by_kind c.args.self.now c.requires c.node_at.ensures bits_node c.in-Bits.is _ _ c.scan_bits.ensures
+item-returns-in-Bits t c = by_kind c.requires c.node_at.ensures bits_node c.in-Bits.is _ _ c.scan_bits.ensures
 
 pub item-returns-in-Unknown : goal.item-returns-in-Unknown
-item-returns-in-Unknown t c = absurd (children c.args.self.now c.requires c.node_at.ensures unknown c.in-Unknown.is)
+item-returns-in-Unknown t c = absurd (children c.requires c.node_at.ensures unknown c.in-Unknown.is)
 
 -- ---- an Option
 
@@ -165,7 +165,7 @@ vector-count t c =
 pub vector-overflow_mul-charge : goal.vector-overflow_mul-charge
 vector-overflow_mul-charge t c =
     let read = (vector-count t (goal.at.vector-overflow_mul-charge t c).In_ok-n).0 in
-    record { fits = charge_lt c.args.self.now c.requires read }
+    record { fits = charge_lt c.requires read }
 
 pub vector-overflow_add-at : goal.vector-overflow_add-at
 vector-overflow_add-at t c = omega (arith, (vector-count t (goal.at.vector-overflow_add-at t c).In_ok-n).1)
@@ -173,12 +173,12 @@ vector-overflow_add-at t c = omega (arith, (vector-count t (goal.at.vector-overf
 pub vector-returns-in_err-totals : goal.vector-returns-in_err-totals
 vector-returns-in_err-totals t c =
     let read = (vector-count t (goal.at.vector-returns-in_err-totals t c).In_ok-n).0 in
-    vector_stops c.args.self.now c.requires read _ _ c.enter.ensures c.in_err-totals.was (handed_on _ _ c.from_residual-in_err-totals.ensures.1)
+    vector_stops c.requires read _ _ c.enter.ensures c.in_err-totals.was (handed_on _ _ c.from_residual-in_err-totals.ensures.1)
 
 pub vector-overflow_add-level : goal.vector-overflow_add-level
 vector-overflow_add-level t c =
     let read = (vector-count t (goal.at.vector-overflow_add-level t c).In_ok-n).0 in
-    omega (arith, (entered c.args.self.now c.requires read _ _ c.enter.ensures c.in_ok-totals.was).lets.0)
+    omega (arith, (entered c.requires read _ _ c.enter.ensures c.in_ok-totals.was).lets.0)
 
 pub vector-slice_bounds-items-count : goal.vector-slice_bounds-items-count
 vector-slice_bounds-items-count t c = (vector-count t (goal.at.vector-slice_bounds-items-count t c).In_ok-n).1
@@ -189,17 +189,17 @@ vector-slice_bounds-items-start t c = (vector-count t (goal.at.vector-slice_boun
 pub vector-items-requires : goal.vector-items-requires
 vector-items-requires t c =
     let count = vector-count t (goal.at.vector-items-requires t c).In_ok-n in
-    (omega arith, walk_items c.requires count.1 (entered c.args.self.now c.requires count.0 _ _ c.enter.ensures c.in_ok-totals.was))
+    (omega arith, walk_items c.requires count.1 (entered c.requires count.0 _ _ c.enter.ensures c.in_ok-totals.was))
 
 pub vector-returns : goal.vector-returns
 vector-returns t c =
     let read = (vector-count t (goal.at.vector-returns t c).In_ok-n).0 in
-    vector_goes c.args.self.now c.requires read _ _ c.enter.ensures c.in_ok-totals.was c.items.ensures
+    vector_goes c.requires read _ _ c.enter.ensures c.in_ok-totals.was c.items.ensures
 
 -- ---- items
 
 pub items-returns-then-self-node-eq0 : goal.items-returns-then-self-node-eq0
-items-returns-then-self-node-eq0 t c = same_pass_as _ _ _ _ _ _ (walk_units c.args.self.now c.requires _ _ c.if-self-node-eq0.true) c.pass_units.ensures
+items-returns-then-self-node-eq0 t c = same_pass_as _ _ _ _ _ _ (walk_units c.requires _ _ c.if-self-node-eq0.true) c.pass_units.ensures
 
 pub items-returns-in_err-t : goal.items-returns-in_err-t
 items-returns-in_err-t t c = loop_stops _ c.loop.invariant c.loop-test.true c.item.ensures c.in_err-t.was (handed_on _ _ c.from_residual.ensures.1)

@@ -2,10 +2,10 @@
 -- a row of items 3 * i + 1 and each kind's own function 3 * i + 2. An item's children have smaller indices, a kind's function calls items at the same index, or a row
 -- of them, and a row calls its items.
 use Rattle.std.proofs.Common.{◌+◌, ◌*◌, max}
-use Rattle.rules.specs.Table.{ty_at}
 use Rattle.rules.specs.Scan.Pass.{pass_at}
+use Rattle.scan.specs.Walk.{type_of}
 use Rattle.scan.proofs.Walking.{Looping}
-use Rattle.scan.proofs.walk.Plan.+walk.Given as goal
+use Rattle.scan.proofs.plan.Plan.+walk.Given as goal
 
 abbrev pub decreases-item : goal.decreases-item
 decreases-item l = 3 * l.node
@@ -27,4 +27,4 @@ decreases-items l = 3 * l.node + 1
 
 abbrev pub invariant-items-loop : goal.invariant-items-loop
 invariant-items-loop l =
-    Looping (pass_at (ty_at l.self.checked.table.now l.node) l.m.limits l.level) l.self.checked.table.now l.node l.m.limits l.count l.at l.s l.m.totals l.initial.cells l.cells l.rest l.end l.totals l.counter
+    Looping (pass_at (type_of l.self l.node) l.m.limits l.level) l.self l.node l.m.limits l.count l.at l.s l.m.totals l.initial.cells l.cells l.rest l.end l.totals l.counter
