@@ -1,60 +1,53 @@
 -- The public readings: from the walk to the jobs.
-use Rattle.std.specs.Prelude.{Ok, Err}
-use mathlib.Core.List.{List, []}
-use mathlib.Core.Path.{◌≡◌, ap, sym, ◌∙◌, subst}
-use Prim.Native.Nat.{ℕ, ◌≤◌, ◌<◌}
-use native.Mathlib.Omega.{arith}
-use borrow.Author.Tests.{lt-ltb, le-ltb}
-use lib.ListN.{length}
-use lib.Seq.{sets}
-use Rattle.rules.specs.Basics.{pick}
+use Rattle.std.specs.Prelude.{Ok, Err, List, ◌≡◌, ℕ, ◌≤◌, ◌<◌, length}
+use Rattle.std.proofs.Common.{refl, sym, ◌∙◌, subst, arith, lt-ltb, le-ltb}
+use Rattle.std.proofs.lemmas.List.Edits.{sets}
 use Rattle.rules.specs.Demands.{Decided}
-use Rattle.rules.proofs.Laws.Demands.{scanned_fit}
-use Rattle.rules.specs.Jobs.{cut_to, cells_after}
+use Rattle.rules.proofs.Laws.Demands.{scanned_fit, whole_fills}
+use Rattle.rules.specs.Jobs.{read_front, read_whole, cut_to, cells_after}
 use Rattle.rules.proofs.Laws.Places.{sets_onto}
 use Rattle.rules.specs.Refusals.{bytes_left_at}
-use Rattle.rules.specs.Scan.{scanned, filling}
-use Rattle.rules.specs.Table.{root, after_check}
+use Rattle.rules.specs.Scan.{Scan, scanned, filling}
+use Rattle.rules.specs.Table.{root}
 use Rattle.rules.specs.declared.Limits.{Limits}
 use Rattle.rules.specs.declared.Refusal.{Refusal}
-use Rattle.rules.specs.Scan.{Scan}
 use Rattle.rules.specs.declared.Totals.{Totals}
 use Rattle.scan.specs.Walk.{passed_in}
 
-pub fills_stopped : (s : List ℕ) (a : Scan) (y : Refusal) → a ≡ Err y → Err y ≡ filling s a
-unfolding filling
-fills_stopped s a y e = ap (filling s) (sym e)
+-- ---- bytes left over
 
-pub fills_left : (s : List ℕ) (a r : Scan) (t : Totals) (n : ℕ) → a ≡ Ok (t, n) → n < length s → r ≡ Err (bytes_left_at n) → r ≡ filling s a
-unfolding filling
-fills_left s a r t n e h q = q ∙ ap (λ b. pick b (Err (bytes_left_at n)) (Ok (t, n))) (sym (lt-ltb n (length s) h)) ∙ ap (filling s) (sym e)
+module _ (tb s : List ℕ) (lim : Limits) where
+  pub whole_refused : (r : Scan) (y : Refusal) → read_front tb s lim ≡ Err y → r ≡ Err y → r ≡ read_whole tb s lim
+  unfolding filling
+  whole_refused r y e q = rw (whole_fills tb s lim, e) q
 
-pub fills_all : (s : List ℕ) (a : Scan) (t : Totals) (n : ℕ) → a ≡ Ok (t, n) → length s ≤ n → Ok (t, n) ≡ filling s a
-unfolding filling
-fills_all s a t n e h = ap (λ b. pick b (Err (bytes_left_at n)) (Ok (t, n))) (sym (le-ltb n (length s) h)) ∙ ap (filling s) (sym e)
+  module _ (t : Totals) (n : ℕ) (e : read_front tb s lim ≡ Ok (t, n)) where
+    pub whole_left : (r : Scan) → n < length s → r ≡ Err (bytes_left_at n) → r ≡ read_whole tb s lim
+    unfolding filling
+    whole_left r h q = rw (whole_fills tb s lim, e, lt-ltb n (length s) h) q
 
--- the lent cells, where an answer was decided
-pub fill_none : (new l : List ℕ) (a : Scan) (y : Refusal) → a ≡ Err y → (Err y ≡ a) × (l ≡ cells_after new a l)
-fill_none new l a y e = (sym e, sym (ap (λ (x : Scan). cells_after new x l) e))
+    pub whole_read : length s ≤ n → Ok (t, n) ≡ read_whole tb s lim
+    unfolding filling
+    whole_read h = rw (whole_fills tb s lim, e, le-ltb n (length s) h) refl
 
-pub fill_done : (tb s l m : List ℕ) (lim : Limits) (a : Scan) (u : Totals) (n : ℕ) → Decided tb s lim a → lim.cells ≤ length l → a ≡ Ok (u, n) → m ≡ sets l 0 (passed_in tb lim s)
-    → (Ok (u, n) ≡ a) × (m ≡ cells_after (scanned (root tb) lim s) a l)
-unfolding passed_in
-fill_done tb s l m lim a u n d h e f =
-    let D = d u n e in
-    let fit = scanned_fit (root tb) lim s u n D.1 in
-    let all : passed_in tb lim s ≡ scanned (root tb) lim s = ap (λ c. after_check c (λ _. []) (scanned (root tb) lim s)) D.0 in
-    (sym e, f ∙ ap (sets l 0) all ∙ sets_onto (scanned (root tb) lim s) l (omega arith) ∙ sym (ap (λ (x : Scan). cells_after (scanned (root tb) lim s) x l) e))
+-- ---- into lent cells
 
--- the cut limits, and the answer that was decided under them
-pub cut_fill : (tb s l : List ℕ) (lim cut : Limits) (a : Scan) (f : List ℕ → List ℕ → Limits → Scan) → cut ≡ cut_to (length l) lim → a ≡ f tb s cut → Decided tb s cut (f tb s cut)
-    → Decided tb s cut a × (cut.cells ≤ length l)
-cut_fill tb s l lim cut a f e g d = (subst (Decided tb s cut) (sym g) d, subst (λ (x : Limits). x.cells ≤ length l) (sym e) (omega arith))
+-- what a reading of a kind f answers and leaves
+abbrev Filled : (List ℕ → List ℕ → Limits → Scan) → List ℕ → List ℕ → Limits → List ℕ → Scan → List ℕ → Type 0
+Filled f tb s lim l r m = record { answers : r ≡ f tb s lim; writes : m ≡ cells_after (scanned (root tb) lim s) r l }
 
-pub cut_read : (tb s l m : List ℕ) (lim cut : Limits) (a r : Scan) (f : List ℕ → List ℕ → Limits → Scan) → cut ≡ cut_to (length l) lim → a ≡ f tb s cut
-    → (r ≡ a) × (m ≡ cells_after (scanned (root tb) cut s) a l)
-    → (r ≡ f tb s (cut_to (length l) lim)) × (m ≡ cells_after (scanned (root tb) (cut_to (length l) lim) s) r l)
-cut_read tb s l m lim cut a r f e g w = (
-  w.0 ∙ g ∙ ap (f tb s) e,
-  w.1 ∙ ap (λ (x : Scan). cells_after (scanned (root tb) cut s) x l) (sym w.0) ∙ ap (λ (x : Limits). cells_after (scanned (root tb) x s) r l) e,
-)
+module _ (f : List ℕ → List ℕ → Limits → Scan) (tb s l : List ℕ) (lim cut : Limits) (e : cut ≡ cut_to (length l) lim) (r : Scan) where
+  pub cut_refused : (y : Refusal) → f tb s cut ≡ Err y → r ≡ Err y → Filled f tb s (cut_to (length l) lim) l r l
+  cut_refused y d q = subst (λ (x : Limits). Filled f tb s x l r l) e (record { answers = q ∙ sym d; writes = rw q refl })
+
+  -- what was decided is what the second walk answers, and its cells are all there
+  pub cut_filled : (u : Totals) (n : ℕ) (m : List ℕ) → Decided tb s cut (f tb s cut) → f tb s cut ≡ Ok (u, n)
+      → record { answers : r ≡ read_front tb s cut; writes : m ≡ sets l 0 (passed_in tb cut s) } → Filled f tb s (cut_to (length l) lim) l r m
+  unfolding read_front passed_in
+  cut_filled u n m d q w =
+      let D = d u n q in
+      let same : r ≡ Ok (u, n) = rw (D.0, D.1) at w.answers in
+      let fit = scanned_fit (root tb) cut s u n D.1 in
+      let room : cut.cells ≤ length l = rw e (omega arith) in
+      let new : m ≡ sets l 0 (scanned (root tb) cut s) = rw D.0 at w.writes in
+      subst (λ (x : Limits). Filled f tb s x l r m) e (record { answers = same ∙ sym q; writes = rw same (new ∙ sets_onto (scanned (root tb) cut s) l (omega arith)) })

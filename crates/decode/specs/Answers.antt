@@ -17,11 +17,10 @@ use Rattle.rules.specs.Scan.Refuse.{Refuses}
 use Rattle.rules.proofs.Laws.Scan.Refuse.{scan_refused, scan_refuses}
 use Rattle.rules.specs.Scan.Steady.{ByLimit, Short}
 use Rattle.rules.proofs.Laws.Scan.Steady.{scanned_wider, scanned_grown}
-use Rattle.rules.specs.Table.{root, check_table, after_check}
+use Rattle.rules.specs.Table.{Check, fine, root, check_table, after_check}
 use Rattle.rules.specs.Table.Laws.{Good}
 use Rattle.rules.specs.Totals.{nesting, charge}
 use Rattle.rules.specs.Types.{Val}
-use Rattle.rules.specs.Table.{Check}
 use Rattle.rules.specs.declared.Limits.{Limits}
 use Rattle.rules.specs.declared.Refusal.{Refusal}
 use Rattle.rules.specs.Scan.{Scan}
@@ -119,7 +118,7 @@ filling_refused : (tb s : List ℕ) (lim : Limits) (y : Refusal) → filling s (
 unfolding filling
 filling_refused tb s lim y e = go (read_front tb s lim) refl e
   where
-    left : (u : Totals) (n : ℕ) → read_front tb s lim ≡ Ok (u, n) → (b : Bool) → ltb n (length s) ≡ b → pick b (Err (bytes_left_at n)) (Ok (u, n)) ≡ Err y → WhyWhole tb s lim y
+    left : (u : Totals) (n : ℕ) → read_front tb s lim ≡ Ok (u, n) → (b : Bool) → ltb n (length s) ≡ b → pick {A = Scan} b (Err (bytes_left_at n)) (Ok (u, n)) ≡ Err y → WhyWhole tb s lim y
     left u n q true t k = let z : bytes_left_at n ≡ y = cc in by_rest u n q (ltb-true n (length s) t) (sym z)
     left u n q false t k = absurd (let z : ◌≡◌ {A = ℕ} 0 1 = cc in omega arith)
 

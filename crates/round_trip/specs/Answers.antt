@@ -7,7 +7,7 @@ use Rattle.rules.specs.Basics.{Under, onto}
 use Rattle.rules.specs.Cells.{cells}
 use Rattle.rules.specs.Demands.{Wrote}
 use Rattle.rules.proofs.Laws.Demands.{front_cells}
-use Rattle.rules.specs.Jobs.{read_front, cut_to, cells_after, write_cells}
+use Rattle.rules.specs.Jobs.{Written, read_front, cut_to, cells_after, write_cells}
 use Rattle.rules.specs.RoundTrip.{Back}
 use Rattle.rules.specs.Scan.{scanned}
 use Rattle.rules.specs.Scan.Accept.{answer}
@@ -18,7 +18,6 @@ use Rattle.rules.specs.Wire.{encode}
 use Rattle.rules.specs.declared.Limits.{Limits}
 use Rattle.rules.specs.Scan.{Scan}
 use Rattle.rules.specs.declared.Totals.{Totals}
-use Rattle.rules.specs.Jobs.{Written}
 use Rattle.decode.specs.Answers as reader
 use Rattle.encode.specs.Answers as writer
 

@@ -1,18 +1,20 @@
 -- What the walkers need of their arguments, and the cells that a walk passes.
-use Rattle.std.specs.Prelude.{List, [], ◌≡◌, ℕ, ◌+◌, ◌^◌, ◌≤◌, ◌<◌, length}
+use Rattle.std.specs.Prelude.{List, [], ℕ, ◌+◌, ◌^◌, ◌≤◌, ◌<◌, length}
 use Rattle.rules.specs.Scan.{scanned}
-use Rattle.rules.specs.Table.{count, numbers_of, units_of, check_table, after_check, root}
-use Rattle.rules.specs.Table.Laws.{Good}
-use Rattle.rules.specs.Totals.{foot}
+use Rattle.rules.specs.Table.{count, ty_at, check_table, after_check, root}
+use Rattle.rules.specs.Types.{Ty}
 use Rattle.rules.specs.declared.Limits.{Limits}
 use Rattle.rules.specs.declared.Totals.{Totals}
+use Rattle.scan.specs.declared.plan.Plan.{Plan}
 
--- a checked table with its footprints and units, a node of it, a message whose offsets fit, and limits that the totals keep within
-pub record Walkable (tb feet units : List ℕ) (node at : ℕ) (s : List ℕ) (lim : Limits) (st : Totals) : Type 0 where
-  pub good : Good tb
-  pub footing : feet ≡ numbers_of foot tb
-  pub unitary : units ≡ units_of tb
-  pub there : node < count tb
+-- the type that a node of a plan's table denotes
+abbrev pub type_of : Plan → ℕ → Ty
+type_of P = ty_at P.checked.table.now
+
+-- a node of the table, which has at most 64, a message whose offsets fit, and limits that the totals keep within
+pub record Walkable (P : Plan) (node at : ℕ) (s : List ℕ) (lim : Limits) (st : Totals) : Type 0 where
+  pub there : node < count P.checked.table.now
+  pub few : node < 64
   pub place : at + length s < 2 ^ 64
   pub within : st.cells ≤ lim.cells
   pub room : lim.cells < 2 ^ 64

@@ -5,4 +5,4 @@ use Rattle.rules.specs.Scan.{Scan}
 use Rattle.rules.specs.declared.Totals.{Totals}
 
 abbrev pub Lands : Pass → List ℕ → Totals → Scan → List ℕ → Type 0
-Lands p l st r m = (r ≡ p.answer) × (m ≡ landed l st p)
+Lands p l st r m = record { answers : r ≡ p.answer; writes : m ≡ landed l st p }

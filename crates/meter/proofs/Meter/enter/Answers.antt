@@ -5,23 +5,19 @@ use Rattle.meter.proofs.Meter.enter.Goals as goal
 
 pub returns-then-self-level : goal.returns-then-self-level
 returns-then-self-level c =
-    let both = stops _ _ _ _ _ (entry_deep _ _ _ _ (omega (arith, c.if-self-level.true))) c.refuse.ensures in
-    record { answers = both.0; writes = both.1 }
+    stops _ _ _ _ _ (entry_deep _ _ _ _ (omega (arith, c.if-self-level.true))) c.refuse.ensures
 
 pub returns-then-self-total : goal.returns-then-self-total
 returns-then-self-total c =
-    let both = stops _ _ _ _ _ (entry_dear _ _ _ _ (omega (arith, c.if-self-level.false)) (rw (← c.saturating_add-total.ensures) c.if-self-total.true)) c.refuse-then-self-total.ensures in
-    record { answers = both.0; writes = both.1 }
+    stops _ _ _ _ _ (entry_dear _ _ _ _ (omega (arith, c.if-self-level.false)) (rw (← c.saturating_add-total.ensures) c.if-self-total.true)) c.refuse-then-self-total.ensures
 
 pub returns-then-room-extra : goal.returns-then-room-extra
 returns-then-room-extra c =
-    let both = stops _ _ _ _ _
-    (entry_full _ _ _ _ (omega (arith, c.if-self-level.false)) (rw (← c.saturating_add-total.ensures) c.if-self-total.false) (omega (arith, c.room.ensures, c.if-room-extra.true))) c.refuse-then-room-extra.ensures in
-    record { answers = both.0; writes = both.1 }
+    stops _ _ _ _ _
+    (entry_full _ _ _ _ (omega (arith, c.if-self-level.false)) (rw (← c.saturating_add-total.ensures) c.if-self-total.false) (omega (arith, c.room.ensures, c.if-room-extra.true))) c.refuse-then-room-extra.ensures
 
 pub returns : goal.returns
 returns c =
-    let both = lands _ _ _ (c.args.n ∷ []) _ _ _
+    lands _ _ _ (c.args.n ∷ []) _ _ _
     (entry_passes _ _ _ _ (omega (arith, c.if-self-level.false)) (rw (← c.saturating_add-total.ensures) c.if-self-total.false) (omega (arith, c.room.ensures, c.if-room-extra.false)))
-    (same_done _ _ _ _ _ _ c.max-depth.ensures c.saturating_add-total.ensures) c.copy_at.ensures in
-    record { answers = both.0; writes = both.1 }
+    (same_done _ _ _ _ _ _ c.max-depth.ensures c.saturating_add-total.ensures) c.copy_at.ensures

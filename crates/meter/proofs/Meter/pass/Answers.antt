@@ -5,10 +5,8 @@ use Rattle.meter.proofs.Meter.pass.Goals as goal
 
 pub returns-then-self-t : goal.returns-then-self-t
 returns-then-self-t c =
-    let both = stops _ _ _ _ _ (plain_stops _ _ _ c.args.new.now _ (⊎_elim (λ p. omega arith) (λ p. omega (arith, p.0, p.1, c.room-room.ensures)) c.then-self-t.either)) c.refuse.ensures in
-    record { answers = both.0; writes = both.1 }
+    stops _ _ _ _ _ (plain_stops _ _ _ c.args.new.now _ (⊎_elim (λ p. omega arith) (λ p. omega (arith, p.0, p.1, c.room-room.ensures)) c.then-self-t.either)) c.refuse.ensures
 
 pub returns : goal.returns
 returns c =
-    let both = lands _ _ _ c.args.new.now _ _ _ (plain_passes _ _ _ c.args.new.now _ (omega (arith, c.room-room.ensures))) refl c.copy_at.ensures in
-    record { answers = both.0; writes = both.1 }
+    lands _ _ _ c.args.new.now _ _ _ (plain_passes _ _ _ c.args.new.now _ (omega (arith, c.room-room.ensures))) refl c.copy_at.ensures
