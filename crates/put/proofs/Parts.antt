@@ -10,12 +10,12 @@ use Rattle.rules.specs.Refusals.{output_small, cells_left_at, append_root}
 use Rattle.rules.specs.Table.{count, node_in, build, ty_at, root, check_table, fine}
 use Rattle.rules.specs.Types.{array}
 use Rattle.rules.specs.declared.Node.{Node}
-use Rattle.rules.specs.declared.Node.TheVariants.{Leaf as leaf_node, Option as option_node, Result as result_node, Pair as pair_node, Array as array_node, Vector as vector_node, Bits as bits_node, Unknown as unknown}
+use Rattle.rules.specs.declared.Node.TheVariants.{Vector as vector_node}
 use Rattle.rules.specs.declared.Refusal.{Refusal}
 use Rattle.rules.proofs.Laws.Basics.{same_parts}
 use Rattle.rules.proofs.Laws.Places.{sets_onto}
 use Rattle.rules.proofs.Laws.Table.{check_good}
-use Rattle.node.specs.Laws.{node_is}
+use Rattle.node.specs.Laws.{node_is, no_vector}
 use Rattle.put.proofs.Putting.{same_put}
 use Rattle.put.specs.Laws.{in_fine, in_refused, part_in_lem}
 use Rattle.put.specs.Written.{Landed, Puttable, PutsAt, part_put, part_in, part_out}
@@ -43,17 +43,7 @@ module _ (tb cs : List ℕ) (f : check_table tb ≡ fine) {i : ℕ} (e : i ≡ c
 
     pub no_items : ((a : ℕ) → q ≡ vector_node a → ⊥) → {out m : List ℕ} {r : Put} → r ≡ Err append_root → PutsAt 0 0 (part_put part (root tb) cs) out m r
     unfolding put_of
-    no_items n s = same_put (items_of q refl ∙ other q n) (record { answers = s; writes = tt })
-      where
-        other : (q : Node) → ((a : ℕ) → q ≡ vector_node a → ⊥) → of_vector (λ u. put (array k u) 0 cs) (bad append_root) (build (ty_at tb) q) ≡ bad append_root
-        other (leaf_node l) n = refl
-        other (option_node a) n = refl
-        other (result_node a b) n = refl
-        other (pair_node a b) n = refl
-        other (array_node j a) n = refl
-        other (vector_node a) n = absurd (n a refl)
-        other bits_node n = refl
-        other unknown n = refl
+    no_items n s = same_put (items_of q refl ∙ no_vector (λ u. put (array k u) 0 cs) (bad append_root) (ty_at tb) q n) (record { answers = s; writes = tt })
 
 -- ---- what is put, where all is decided
 
