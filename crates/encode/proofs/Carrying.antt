@@ -2,9 +2,9 @@
 use Rattle.std.specs.Prelude.{Bool, true, false, List, ◌≡◌, refl, ℕ, ◌+◌, ltb, length, Ok, Err}
 use Rattle.std.proofs.Common.{ap, ap₂, sym, ◌∙◌, arith}
 use Rattle.rules.specs.Basics.{pick}
-use Rattle.rules.specs.Jobs.{Written, wrote, not, put_out, written_of}
+use Rattle.rules.specs.Jobs.{wrote, not, put_out, written_of}
 use Rattle.rules.specs.Parser.{Res, got, bad}
-use Rattle.rules.specs.Put.{Put, put_of}
+use Rattle.rules.specs.Put.{put_of}
 use Rattle.rules.specs.Refusals.{output_small, cells_left_at}
 use Rattle.put.specs.Laws.{part_in_lem}
 use Rattle.put.specs.Written.{part_in, part_out}
@@ -26,5 +26,5 @@ settled_put given room (got l n) =
     go false false = refl
 settled_put given room (bad y) = refl
 
-pub part_settled : (part : Part) (tb cs : List ℕ) (room : ℕ) (p : Put) (r : Written) → p ≡ put_of 0 0 (part_in part tb cs) → r ≡ settled_of (length cs) room p → r ≡ written_of (part_out part tb cs room)
-part_settled part tb cs room p r f g = g ∙ ap (settled_of (length cs) room) f ∙ settled_put (length cs) room (part_in part tb cs) ∙ sym (ap written_of (part_in_lem part tb cs room))
+pub settled_part : (part : Part) (tb cs : List ℕ) (room : ℕ) → settled_of (length cs) room (put_of 0 0 (part_in part tb cs)) ≡ written_of (part_out part tb cs room)
+settled_part part tb cs room = settled_put (length cs) room (part_in part tb cs) ∙ sym (ap written_of (part_in_lem part tb cs room))

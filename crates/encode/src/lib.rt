@@ -25,6 +25,7 @@ fn settled(given: usize, room: usize, put: Answer<(usize, usize)>) -> Answer<usi
 }
 
 // How many bytes a part takes.
+#[tactic(auto, using(crate::proofs::Carrying::settled_part))]
 fn size_of(table: &[u8], part: Part, cells: &[u64]) -> Answer<usize>
     ensures { result ≡ written_of (part_out part table.now cells.now (2 ^ 64 - 1)) }
 {
@@ -33,6 +34,7 @@ fn size_of(table: &[u8], part: Part, cells: &[u64]) -> Answer<usize>
 }
 
 // Writes a part.
+#[tactic(auto, using(crate::proofs::Carrying::settled_part))]
 fn write_part(table: &[u8], part: Part, cells: &[u64], out: &mut [u8]) -> Answer<usize>
     ensures answers { result ≡ written_of (part_out part table.now cells.now (length out.old)) }
     ensures writes { out.new ≡ output_after (part_out part table.now cells.now (length out.old)) out.old }
