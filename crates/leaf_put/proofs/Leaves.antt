@@ -17,18 +17,15 @@ use Rattle.rules.specs.declared.Width.{Width}
 use Rattle.rules.specs.declared.Width.TheVariants.{W1 as w1, W2 as w2, W4 as w4, W8 as w8, W16 as w16}
 use Rattle.rules.proofs.Laws.RoundTrip.{cells_unpacked}
 
--- a word in halves, and halves that say a number
-word_in_halves : (v : ℕ) (h : Halves) → v < 2 ^ 64 → h ≡ record { low = v; high = 0 } → h ≡ in_halves v
-word_in_halves v h lt e =
-    let lo : v ≡ v % 2 ^ 64 = omega arith in
-    let hi : 0 ≡ v / 2 ^ 64 = omega arith in
-    e ∙ ap₂ (λ (x y : ℕ). record { low = x; high = y }) lo hi
-
+-- the halves that say a number, and those of a word
 both_halves : (a b : ℕ) → a < 2 ^ 64 → ◌≡◌ {A = Halves} (record { low = a; high = b }) (in_halves (whole a b))
 both_halves a b lt =
     let lo : a ≡ whole a b % 2 ^ 64 = omega arith in
     let hi : b ≡ whole a b / 2 ^ 64 = omega arith in
     ap₂ (λ (x y : ℕ). record { low = x; high = y }) lo hi
+
+word_in_halves : (v : ℕ) (h : Halves) → v < 2 ^ 64 → h ≡ record { low = v; high = 0 } → h ≡ in_halves v
+word_in_halves v h lt e = let w : whole v 0 ≡ v = omega arith in e ∙ both_halves v 0 lt ∙ ap in_halves w
 
 -- ---- one cell
 
