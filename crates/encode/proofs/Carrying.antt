@@ -1,21 +1,11 @@
 -- The answer of a write, from how far it got.
-use Rattle.std.specs.Prelude.{Ok, Err}
-use mathlib.Core.Bool.{Bool, true, false}
-use mathlib.Core.List.{List}
-use mathlib.Core.Path.{◌≡◌, refl, ap, sym, ◌∙◌, ap₂}
-use Prim.Native.Nat.{ℕ, ◌+◌, ◌≤◌, ◌<◌}
-use native.Mathlib.Omega.{arith}
-use borrow.Author.Tests.{lt-ltb, le-ltb}
-use lib.Dec.{ltb}
-use lib.ListN.{length}
+use Rattle.std.specs.Prelude.{Bool, true, false, List, ◌≡◌, refl, ℕ, ◌+◌, ltb, length, Ok, Err}
+use Rattle.std.proofs.Common.{ap, ap₂, sym, ◌∙◌, arith}
 use Rattle.rules.specs.Basics.{pick}
 use Rattle.rules.specs.Jobs.{wrote, not, put_out, written_of}
 use Rattle.rules.specs.Parser.{Res, got, bad}
 use Rattle.rules.specs.Put.{put_of}
 use Rattle.rules.specs.Refusals.{output_small, cells_left_at}
-use Rattle.rules.specs.Put.{Put}
-use Rattle.rules.specs.declared.Refusal.{Refusal}
-use Rattle.rules.specs.Jobs.{Written}
 use Rattle.put.specs.Laws.{part_in_lem}
 use Rattle.put.specs.Written.{part_in, part_out}
 use Rattle.put.specs.declared.Part.{Part}
@@ -36,28 +26,5 @@ settled_put given room (got l n) =
     go false false = refl
 settled_put given room (bad y) = refl
 
-module _ (given room : ℕ) (p : Put) where
-  pub settle_none : (y : Refusal) → p ≡ Err y → Err y ≡ settled_of given room p
-  unfolding settled_of
-  settle_none y e = ap (settled_of given room) (sym e)
-
-  module _ (n used : ℕ) (e : p ≡ Ok (n, used)) where
-    after : settled_of given room p ≡ pick (ltb n given) (Err (cells_left_at n)) (pick (ltb room used) (Err output_small) (Ok used))
-    unfolding settled_of
-    after = ap (settled_of given room) e
-
-    pub settle_left : (r : Written) → n < given → r ≡ Err (cells_left_at n) → r ≡ settled_of given room p
-    settle_left r h q = q ∙ sym (after ∙ ap (λ b. pick b (Err (cells_left_at n)) (pick (ltb room used) (Err output_small) (Ok used))) (lt-ltb n given h))
-
-    module _ (all : given ≤ n) where
-      fitting : settled_of given room p ≡ pick (ltb room used) (Err output_small) (Ok used)
-      fitting = after ∙ ap (λ b. pick b (Err (cells_left_at n)) (pick (ltb room used) (Err output_small) (Ok used))) (le-ltb n given all)
-
-      pub settle_small : (r : Written) → room < used → r ≡ Err output_small → r ≡ settled_of given room p
-      settle_small r h q = q ∙ sym (fitting ∙ ap (λ b. pick b (Err output_small) (Ok used)) (lt-ltb room used h))
-
-      pub settle_all : used ≤ room → Ok used ≡ settled_of given room p
-      settle_all h = sym (fitting ∙ ap (λ b. pick b (Err output_small) (Ok used)) (le-ltb room used h))
-
-pub part_settled : (part : Part) (tb cs : List ℕ) (room : ℕ) (p : Put) (r : Written) → p ≡ put_of 0 0 (part_in part tb cs) → r ≡ settled_of (length cs) room p → r ≡ written_of (part_out part tb cs room)
-part_settled part tb cs room p r f g = g ∙ ap (settled_of (length cs) room) f ∙ settled_put (length cs) room (part_in part tb cs) ∙ sym (ap written_of (part_in_lem part tb cs room))
+pub settled_part : (part : Part) (tb cs : List ℕ) (room : ℕ) → settled_of (length cs) room (put_of 0 0 (part_in part tb cs)) ≡ written_of (part_out part tb cs room)
+settled_part part tb cs room = settled_put (length cs) room (part_in part tb cs) ∙ sym (ap written_of (part_in_lem part tb cs room))

@@ -9,25 +9,23 @@ use Rattle.rules.specs.Basics.{pick, Under, onto}
 use Rattle.rules.specs.Cells.{cells, unpack}
 use Rattle.rules.specs.Demands.{Wrote}
 use Rattle.rules.proofs.Laws.Demands.{front_accepts, front_accepted, front_cells, output_writes, output_wrote}
-use Rattle.rules.specs.Jobs.{read_front, Output, wrote, not, fitted, put_out, output, write_cells, written_of, output_after, written_fields}
+use Rattle.rules.specs.Jobs.{read_front, Output, wrote, not, fitted, put_out, output, write_cells, Written, written_of, output_after, written_fields}
 use Rattle.rules.specs.Parser.{Res, got, bad}
 use Rattle.rules.specs.Refusals.{output_small, cells_left_at, number_of}
 use Rattle.rules.specs.RoundTrip.{Back}
 use Rattle.rules.proofs.Laws.RoundTrip.{read_written, written_back, unpack_cells}
 use Rattle.rules.specs.Scan.{scanned}
 use Rattle.rules.specs.Scan.Accept.{Accepted, answer}
-use Rattle.rules.specs.Table.{root, check_table, after_check, as_longest, longest_of}
+use Rattle.rules.specs.Table.{Check, fine, root, check_table, after_check, Longest, longest_of}
 use Rattle.rules.specs.Table.Laws.{Good}
 use Rattle.rules.proofs.Laws.Table.{check_good, good_check}
 use Rattle.rules.specs.Totals.{longest, nesting, charge, vectors}
 use Rattle.rules.specs.Totals.Bound.{AtMost}
 use Rattle.rules.specs.Types.{Val, Fits}
 use Rattle.rules.specs.Wire.{encode, read}
-use Rattle.rules.specs.Table.{Check}
 use Rattle.rules.specs.declared.Limits.{Limits}
 use Rattle.rules.specs.declared.Refusal.{Refusal}
 use Rattle.rules.specs.declared.Totals.{Totals}
-use Rattle.rules.specs.Jobs.{Written}
 
 -- what a contract says for the job o
 pub record Contract (o : Output) (out : List ℕ) (r : Written) (m : List ℕ) : Type 0 where
@@ -143,9 +141,9 @@ module _ (tb cs out : List ℕ) (r : Written) (m : List ℕ) (c : Contract (writ
       let w = write_accepted u n e in
       let g = w.0 in
       let most : AtMost (longest (root tb)) n = subst (AtMost (longest (root tb))) (sym w.1.2) w.1.1.most in
-      bounded (longest (root tb)) most (sym (ap (λ x. after_check x Err (as_longest (longest (root tb)))) (good_check tb g)) ∙ (unfold longest_of in q))
+      bounded (longest (root tb)) most (sym (ap (λ x. after_check {A = Longest} x Err (Ok (longest (root tb)))) (good_check tb g)) ∙ (unfold longest_of in q))
     where
-      bounded : (b : Option ℕ) → AtMost b n → as_longest b ≡ Ok (Some k) → n ≤ k
+      bounded : (b : Option ℕ) → AtMost b n → ◌≡◌ {A = Longest} (Ok b) (Ok (Some k)) → n ≤ k
       bounded (Some j) h f = let z : j ≡ k = cc in omega (arith, h, z)
       bounded None h f = absurd (let z : ◌≡◌ {A = ℕ} 0 1 = cc in omega arith)
 

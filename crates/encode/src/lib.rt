@@ -2,52 +2,40 @@
 #![tactic(auto)]
 
 ghost use Rattle.std.specs.Prelude.{◌≡◌, ◌-◌, ◌^◌, length};
-ghost use Rattle.rules.specs.Refusals.{because};
 ghost use Rattle.rules.specs.Jobs.{write_cells, write_items, written_of, output_after};
 ghost use Rattle.put.specs.Written.{part_out};
 ghost use Rattle.encode.specs.Settled.{settled_of};
 
 use put::{Part, put_part};
-use rules::{Put, Refusal, Written};
-
-fn refused(number: u32, place: usize) -> Written
-    ensures { result ≡ Written.Refused (because number place) }
-{
-    Written::Refused(Refusal { number, place })
-}
+use rules::{Answer, Reason, refuse};
 
 // Cells left over are refused, and then an output with too little room.
-fn settled(given: usize, room: usize, put: Put) -> Written
+#[tactic(auto, unfolding(crate::specs::Settled::settled_of))]
+fn settled(given: usize, room: usize, put: Answer<(usize, usize)>) -> Answer<usize>
     ensures { result ≡ settled_of given room put }
 {
-    match put {
-        Put::Refused(y) => Written::Refused(y),
-        Put::Done(taken, used) => {
-            if taken < given {
-                return refused(rules::CELLS_LEFT, taken);
-            }
-            if room < used {
-                return refused(rules::OUTPUT_SMALL, 0);
-            }
-            Written::Bytes(used)
-        }
+    let (taken, used) = put?;
+    if taken < given {
+        return refuse(Reason::CellsLeft, taken);
     }
+    if room < used {
+        return refuse(Reason::OutputSmall, 0);
+    }
+    Ok(used)
 }
 
 // How many bytes a part takes.
-fn size_of(table: &[u8], part: Part, cells: &[u64]) -> Written
+#[tactic(auto, using(crate::proofs::Carrying::settled_part))]
+fn size_of(table: &[u8], part: Part, cells: &[u64]) -> Answer<usize>
     ensures { result ≡ written_of (part_out part table.now cells.now (2 ^ 64 - 1)) }
 {
-    let mut none = [0u8; 1];
-    settled(
-        cells.len(),
-        0xffff_ffff_ffff_ffff,
-        put_part(table, part, cells, &mut none[..0]),
-    )
+    let unbounded = put_part(table, part, cells, &mut []);
+    settled(cells.len(), usize::MAX, unbounded)
 }
 
 // Writes a part.
-fn write_part(table: &[u8], part: Part, cells: &[u64], out: &mut [u8]) -> Written
+#[tactic(auto, using(crate::proofs::Carrying::settled_part))]
+fn write_part(table: &[u8], part: Part, cells: &[u64], out: &mut [u8]) -> Answer<usize>
     ensures answers { result ≡ written_of (part_out part table.now cells.now (length out.old)) }
     ensures writes { out.new ≡ output_after (part_out part table.now cells.now (length out.old)) out.old }
 {
@@ -56,14 +44,14 @@ fn write_part(table: &[u8], part: Part, cells: &[u64], out: &mut [u8]) -> Writte
 }
 
 // How many bytes writing the cells would take: what `write` answers where there is room enough.
-pub fn encoded_size(table: &[u8], cells: &[u64]) -> Written
+pub fn encoded_size(table: &[u8], cells: &[u64]) -> Answer<usize>
     ensures { result ≡ written_of (write_cells table.now cells.now (2 ^ 64 - 1)) }
 {
     size_of(table, Part::Root, cells)
 }
 
 // Writes the value that the cells say at the front of the output; bytes past its end stay, and a refusal leaves all.
-pub fn write(table: &[u8], cells: &[u64], out: &mut [u8]) -> Written
+pub fn write(table: &[u8], cells: &[u64], out: &mut [u8]) -> Answer<usize>
     ensures answers { result ≡ written_of (write_cells table.now cells.now (length out.old)) }
     ensures writes { out.new ≡ output_after (write_cells table.now cells.now (length out.old)) out.old }
 {
@@ -71,13 +59,13 @@ pub fn write(table: &[u8], cells: &[u64], out: &mut [u8]) -> Written
 }
 
 // The same for k items of a root that is a vector, without its head: what an append puts behind the old items.
-pub fn items_size(table: &[u8], k: u64, cells: &[u64]) -> Written
+pub fn items_size(table: &[u8], k: u64, cells: &[u64]) -> Answer<usize>
     ensures { result ≡ written_of (write_items table.now k cells.now (2 ^ 64 - 1)) }
 {
     size_of(table, Part::Items(k), cells)
 }
 
-pub fn write_items(table: &[u8], k: u64, cells: &[u64], out: &mut [u8]) -> Written
+pub fn write_items(table: &[u8], k: u64, cells: &[u64], out: &mut [u8]) -> Answer<usize>
     ensures answers { result ≡ written_of (write_items table.now k cells.now (length out.old)) }
     ensures writes { out.new ≡ output_after (write_items table.now k cells.now (length out.old)) out.old }
 {

@@ -1,9 +1,7 @@
 -- Demands 1 and 2 about append's own answers: r is any answer that the contract allows, and m what the buffer is afterwards.
-use Rattle.std.specs.Prelude.{Bool, true, false, ℕ, ◌+◌, ◌^◌, ◌≤◌, ◌<◌, ltb, leb, drop, take, Ok, Err}
-use mathlib.Core.List.{List, ◌++◌, [], ◌∷◌}
+use Rattle.std.specs.Prelude.{Bool, true, false, List, ◌++◌, [], ◌∷◌, ℕ, ◌+◌, ◌^◌, ◌≤◌, ◌<◌, ltb, leb, drop, take, Ok, Err}
 use Rattle.std.proofs.Math.Path.{◌≡◌, refl, ap, sym, ap₂}
-use Rattle.std.proofs.Common.{◌∙◌, subst, le_refl, ltb-true, ltb-false, lt-ltb, le-ltb, leb-true, leb-false, le-leb, take-append-drop, length-take-le, drop_at}
-use native.Mathlib.Omega.{arith}
+use Rattle.std.proofs.Common.{arith, ◌∙◌, subst, le_refl, ltb-true, ltb-false, lt-ltb, le-ltb, leb-true, leb-false, le-leb, take-append-drop, length-take-le, drop_at}
 use Rattle.std.proofs.lemmas.Bool.{lt-leb}
 use Rattle.std.proofs.Math.ListN.{length}
 use Rattle.std.proofs.Math.Seq.{take_all}
@@ -14,18 +12,16 @@ use Rattle.rules.proofs.Laws.Bytes.{under_take}
 use Rattle.rules.specs.Cells.{cells, unpack}
 use Rattle.rules.specs.Compact.{compact_bytes}
 use Rattle.rules.specs.Form.{write, parse}
-use Rattle.rules.specs.Jobs.{Output, wrote, not, fitted, put_out, of_vector, written_of, output_after, old_count, joined, append_from, append_items, append_to, append}
+use Rattle.rules.specs.Jobs.{Output, wrote, not, fitted, put_out, of_vector, written_of, output_after, old_count, joined, append_from, append_items, append_to, append, Written}
 use Rattle.rules.specs.Parser.{Res, got, bad, times}
 use Rattle.rules.specs.Refusals.{output_small, cells_left_at, append_root, append_used, append_head, append_count, max_count}
 use Rattle.rules.proofs.Laws.RoundTrip.{cells_unpacked}
-use Rattle.rules.specs.Table.{root, check_table, after_check}
+use Rattle.rules.specs.Table.{Check, fine, root, check_table, after_check}
 use Rattle.rules.specs.Types.{Ty, leaf, nothing, result, pair, array, vector, bits, Val, Fits}
 use Rattle.rules.specs.Wire.{leaf_bytes, encode, leaf_from}
-use Rattle.rules.specs.Table.{Check}
 use Rattle.rules.specs.declared.Leaf.TheVariants.{Compact as compact}
 use Rattle.rules.specs.declared.Refusal.{Refusal}
 use Rattle.rules.specs.declared.Width.TheVariants.{W4 as w4}
-use Rattle.rules.specs.Jobs.{Written}
 -- that any two answers are equal, that a refusal leaves the buffer, and that the bytes past what is written stay, is said once for every job that writes:
 pub use Rattle.encode.specs.Answers.{Contract, one_writing, refusal_leaves, written_front}
 

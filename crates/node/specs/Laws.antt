@@ -1,7 +1,6 @@
 -- Laws of a node: which one `node_in_lem` gives, and what a caller knows of it.
 use Rattle.std.specs.Prelude.{Bool, true, false, List, [], ◌∷◌, ◌≡◌, refl, ℕ, ◌+◌, ◌*◌, ◌<◌, eqb, length, Option, Some, None, option_map, MatchOption, IsSomeAnd}
 use Rattle.std.proofs.Common.{ap, sym, ◌∙◌, subst, arith, le-leb}
-use types.Run.{OneOf, miss}
 use Rattle.rules.specs.Basics.{pick}
 use Rattle.rules.specs.Types.{Ty}
 use Rattle.rules.specs.Table.{count, with_width, node_at, node_in, build, ty_at}
@@ -45,14 +44,13 @@ node_is tb g i h q n e f =
     let k : node_at tb i ≡ n = sym (node_good tb g i h) ∙ sym e ∙ f in
     (type_node tb g i h ∙ ap (build (ty_at tb)) k, subst (Below i) k (g.nodes i h))
 
--- what the last arm of a match knows that has an arm for vectors: the node is another case of the enum than a vector, which is case 5
-pub no_vector : {A : Type 0} (f : Ty → A) (a : A) (g : ℕ → Ty) (kind : Node → ℕ) → ((i : ℕ) → kind (vector_node i) ≡ 5)
-    → (q : Node) → OneOf (0 ∷ 1 ∷ 2 ∷ 3 ∷ 4 ∷ 6 ∷ 7 ∷ []) (kind q) → of_vector f a (build g q) ≡ a
-no_vector f a g kind e (leaf_node k) h = refl
-no_vector f a g kind e (option_node i) h = refl
-no_vector f a g kind e (result_node i j) h = refl
-no_vector f a g kind e (pair_node i j) h = refl
-no_vector f a g kind e (array_node n i) h = refl
-no_vector f a g kind e (vector_node i) h = absurd (miss (0 ∷ 1 ∷ 2 ∷ 3 ∷ 4 ∷ 6 ∷ 7 ∷ []) 5 tt (subst (OneOf (0 ∷ 1 ∷ 2 ∷ 3 ∷ 4 ∷ 6 ∷ 7 ∷ [])) (e i) h))
-no_vector f a g kind e bits_node h = refl
-no_vector f a g kind e unknown h = refl
+-- a node that is no vector has no vector's type
+pub no_vector : {A : Type 0} (f : Ty → A) (a : A) (g : ℕ → Ty) (q : Node) → ((i : ℕ) → q ≡ vector_node i → ⊥) → of_vector f a (build g q) ≡ a
+no_vector f a g (leaf_node k) n = refl
+no_vector f a g (option_node i) n = refl
+no_vector f a g (result_node i j) n = refl
+no_vector f a g (pair_node i j) n = refl
+no_vector f a g (array_node m i) n = refl
+no_vector f a g (vector_node i) n = absurd (n i refl)
+no_vector f a g bits_node n = refl
+no_vector f a g unknown n = refl

@@ -7,7 +7,7 @@ use Rattle.rules.specs.Parser.{bad}
 use Rattle.rules.specs.Put.{put}
 use Rattle.rules.proofs.Laws.Put.{output_put}
 use Rattle.rules.specs.Refusals.{append_root}
-use Rattle.rules.specs.Table.{root, check_table, after_check}
+use Rattle.rules.specs.Table.{root, check_table, after_check, fine}
 use Rattle.rules.specs.Types.{Ty, leaf, nothing, result, pair, array, vector, bits}
 use Rattle.rules.specs.Table.{Check}
 use Rattle.rules.specs.declared.Refusal.{Refusal}

@@ -4,12 +4,10 @@ use Rattle.std.proofs.lemmas.List.Edits.{sets}
 use Rattle.rules.specs.Basics.{Under}
 use Rattle.rules.specs.Jobs.{Output, write_cells, of_vector, write_items}
 use Rattle.rules.specs.Parser.{Res, got, bad}
-use Rattle.rules.specs.Put.{put}
+use Rattle.rules.specs.Put.{Put, put, put_of}
 use Rattle.rules.specs.Refusals.{because, append_root}
 use Rattle.rules.specs.Table.{count, root, check_table, after_check}
-use Rattle.rules.specs.Table.Laws.{Good}
 use Rattle.rules.specs.Types.{Ty, array}
-use Rattle.rules.specs.Put.{Put}
 pub use Rattle.put.specs.declared.Part.{Part}
 pub use Rattle.put.specs.declared.Part.TheVariants.{Root as whole_root, Items as root_items}
 
@@ -17,6 +15,11 @@ pub use Rattle.put.specs.declared.Part.TheVariants.{Root as whole_root, Items as
 abbrev pub Landed : ℕ → Res (List ℕ) → List ℕ → List ℕ → Type 0
 Landed pos (got l n) out later = later ≡ sets out pos l
 Landed pos (bad y) out later = Prim.Unit {0}
+
+-- what a writer of bytes answers and leaves, where the first cell is at index `at` and the first byte at `pos`
+pub record PutsAt (at pos : ℕ) (bytes : Res (List ℕ)) (old new : List ℕ) (answer : Put) : Type 0 where
+  pub answers : answer ≡ put_of at pos bytes
+  pub writes : Landed pos bytes old new
 
 -- an answer that counts from a value's own first cell and byte, where these are at `at` and `pos`; and that its numbers fit there
 unfoldable pub placed_of : ℕ → ℕ → Put → Put
@@ -33,9 +36,8 @@ pub record Spare (at : ℕ) (cs : List ℕ) (pos : ℕ) : Type 0 where
   pub taking : at + length cs < 2 ^ 60
   pub putting : pos + 9 * length cs < 2 ^ 64
 
--- a checked table and a node of it, with such indices
+-- a node of a table, with such indices
 pub record Puttable (tb : List ℕ) (node at : ℕ) (cs : List ℕ) (pos : ℕ) : Type 0 where
-  pub good : Good tb
   pub there : node < count tb
   pub spare : Spare at cs pos
 

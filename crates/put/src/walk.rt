@@ -1,160 +1,138 @@
 // The writing walkers, over the cells as reading goes over bytes: the item writer calls the writer of the node's kind and is called back, with the table index
 // and the items left falling. Each item takes a cell or is refused, so work is bounded by the cells given, whatever a count says.
-ghost use Rattle.std.specs.Prelude.{◌≡◌};
-ghost use Rattle.rules.specs.Put.{put, put_of};
+ghost use Rattle.rules.specs.Put.{put};
 ghost use Rattle.rules.specs.Table.{ty_at};
 ghost use Rattle.rules.specs.Types.{array, option, result as result_type, pair, vector};
-ghost use Rattle.put.specs.Written.{Puttable, Landed};
+ghost use Rattle.put.specs.Written.{Puttable, PutsAt};
 
-use crate::because;
 use crate::single::{put_bits, put_leaf};
-use rules::{Leaf, Node, Put, Width};
+use rules::{Answer, Leaf, Node, Reason, Width, refuse};
+use table::Checked;
 
-// The item that node `node` of a checked table describes, whose cells start at index `at`, which is where cs starts, with its bytes from `pos` on.
+// The item that node `node` of the table describes, whose cells start at index `at`, which is where cs starts, with its bytes from `pos` on.
 #[cycle(walk)]
 pub(crate) fn put_item(
-    table: &[u8],
+    checked: &Checked,
     node: usize,
     at: usize,
     cs: &[u64],
     out: &mut [u8],
     pos: usize,
-) -> Put
-    requires { Puttable table.now node at cs.now pos }
-    ensures answers { result ≡ put_of at pos (put (ty_at table.now node) at cs.now) }
-    ensures writes { Landed pos (put (ty_at table.now node) at cs.now) out.old out.new }
+) -> Answer<(usize, usize)>
+    requires { Puttable checked.now.table.now node at cs.now pos }
+    ensures { PutsAt at pos (put (ty_at checked.now.table.now node) at cs.now) out.old out.new result }
 {
-    match node::node_at(table, node) {
+    match node::node_at(checked.table, node) {
         Node::Leaf(leaf) => put_leaf(leaf, at, cs, out, pos),
-        Node::Option(a) => put_option(table, a, at, cs, out, pos),
-        Node::Result(a, b) => put_result(table, a, b, at, cs, out, pos),
-        Node::Pair(a, b) => put_pair(table, a, b, at, cs, out, pos),
-        Node::Array(n, a) => put_items(table, a, n as u64, at, cs, out, pos),
-        Node::Vector(a) => put_vector(table, a, at, cs, out, pos),
+        Node::Option(a) => put_option(checked, a, at, cs, out, pos),
+        Node::Result(a, b) => put_result(checked, a, b, at, cs, out, pos),
+        Node::Pair(a, b) => put_pair(checked, a, b, at, cs, out, pos),
+        Node::Array(n, a) => put_items(checked, a, n as u64, at, cs, out, pos),
+        Node::Vector(a) => put_vector(checked, a, at, cs, out, pos),
         Node::Bits => put_bits(at, cs, out, pos),
         // No node of a checked table is unknown.
-        Node::Unknown => Put::Refused(because(rules::TABLE_NODE, node)),
+        Node::Unknown => refuse(Reason::TableNode, node),
     }
 }
 
 // An Option of node `a`: its tag, and behind tag 1 the item.
 #[cycle(walk)]
-fn put_option(table: &[u8], a: usize, at: usize, cs: &[u64], out: &mut [u8], pos: usize) -> Put
-    requires { Puttable table.now a at cs.now pos }
-    ensures answers { result ≡ put_of at pos (put (option (ty_at table.now a)) at cs.now) }
-    ensures writes { Landed pos (put (option (ty_at table.now a)) at cs.now) out.old out.new }
+fn put_option(
+    checked: &Checked,
+    a: usize,
+    at: usize,
+    cs: &[u64],
+    out: &mut [u8],
+    pos: usize,
+) -> Answer<(usize, usize)>
+    requires { Puttable checked.now.table.now a at cs.now pos }
+    ensures { PutsAt at pos (put (option (ty_at checked.now.table.now a)) at cs.now) out.old out.new result }
 {
-    match put_leaf(Leaf::Bool, at, cs, out, pos) {
-        Put::Refused(y) => Put::Refused(y),
-        Put::Done(next, end) => {
-            if cs[0] == 0 {
-                return Put::Done(next, end);
-            }
-            let n = next - at;
-            put_item(table, a, next, &cs[n..], out, end)
-        }
+    let (next, end) = put_leaf(Leaf::Bool, at, cs, out, pos)?;
+    if cs[0] == 0 {
+        return Ok((next, end));
     }
+    put_item(checked, a, next, &cs[next - at..], out, end)
 }
 
 // A Result of nodes `a` and `b`: its tag, and behind it the item that the tag chooses.
 #[cycle(walk)]
 fn put_result(
-    table: &[u8],
+    checked: &Checked,
     a: usize,
     b: usize,
     at: usize,
     cs: &[u64],
     out: &mut [u8],
     pos: usize,
-) -> Put
-    requires { (Puttable table.now a at cs.now pos) × (Puttable table.now b at cs.now pos) }
-    ensures answers { result ≡ put_of at pos (put (result_type (ty_at table.now a) (ty_at table.now b)) at cs.now) }
-    ensures writes { Landed pos (put (result_type (ty_at table.now a) (ty_at table.now b)) at cs.now) out.old out.new }
+) -> Answer<(usize, usize)>
+    requires first { Puttable checked.now.table.now a at cs.now pos }
+    requires second { Puttable checked.now.table.now b at cs.now pos }
+    ensures { PutsAt at pos (put (result_type (ty_at checked.now.table.now a) (ty_at checked.now.table.now b)) at cs.now) out.old out.new result }
 {
-    match put_leaf(Leaf::Bool, at, cs, out, pos) {
-        Put::Refused(y) => Put::Refused(y),
-        Put::Done(next, end) => {
-            let n = next - at;
-            if cs[0] == 0 {
-                return put_item(table, a, next, &cs[n..], out, end);
-            }
-            put_item(table, b, next, &cs[n..], out, end)
-        }
-    }
+    let (next, end) = put_leaf(Leaf::Bool, at, cs, out, pos)?;
+    let chosen = if cs[0] == 0 { a } else { b };
+    put_item(checked, chosen, next, &cs[next - at..], out, end)
 }
 
 // A pair: an item of node `a`, and behind it one of node `b`.
 #[cycle(walk)]
 fn put_pair(
-    table: &[u8],
+    checked: &Checked,
     a: usize,
     b: usize,
     at: usize,
     cs: &[u64],
     out: &mut [u8],
     pos: usize,
-) -> Put
-    requires { (Puttable table.now a at cs.now pos) × (Puttable table.now b at cs.now pos) }
-    ensures answers { result ≡ put_of at pos (put (pair (ty_at table.now a) (ty_at table.now b)) at cs.now) }
-    ensures writes { Landed pos (put (pair (ty_at table.now a) (ty_at table.now b)) at cs.now) out.old out.new }
+) -> Answer<(usize, usize)>
+    requires first { Puttable checked.now.table.now a at cs.now pos }
+    requires second { Puttable checked.now.table.now b at cs.now pos }
+    ensures { PutsAt at pos (put (pair (ty_at checked.now.table.now a) (ty_at checked.now.table.now b)) at cs.now) out.old out.new result }
 {
-    match put_item(table, a, at, cs, out, pos) {
-        Put::Refused(y) => Put::Refused(y),
-        Put::Done(next, end) => {
-            let n = next - at;
-            put_item(table, b, next, &cs[n..], out, end)
-        }
-    }
+    let (next, end) = put_item(checked, a, at, cs, out, pos)?;
+    put_item(checked, b, next, &cs[next - at..], out, end)
 }
 
 // A vector of items of node `a`: its count, and behind it the items.
 #[cycle(walk)]
-fn put_vector(table: &[u8], a: usize, at: usize, cs: &[u64], out: &mut [u8], pos: usize) -> Put
-    requires { Puttable table.now a at cs.now pos }
-    ensures answers { result ≡ put_of at pos (put (vector (ty_at table.now a)) at cs.now) }
-    ensures writes { Landed pos (put (vector (ty_at table.now a)) at cs.now) out.old out.new }
+fn put_vector(
+    checked: &Checked,
+    a: usize,
+    at: usize,
+    cs: &[u64],
+    out: &mut [u8],
+    pos: usize,
+) -> Answer<(usize, usize)>
+    requires { Puttable checked.now.table.now a at cs.now pos }
+    ensures { PutsAt at pos (put (vector (ty_at checked.now.table.now a)) at cs.now) out.old out.new result }
 {
-    match put_leaf(Leaf::Compact(Width::W4), at, cs, out, pos) {
-        Put::Refused(y) => Put::Refused(y),
-        Put::Done(next, end) => {
-            let n = next - at;
-            put_items(table, a, cs[0], next, &cs[n..], out, end)
-        }
-    }
+    let (next, end) = put_leaf(Leaf::Compact(Width::W4), at, cs, out, pos)?;
+    put_items(checked, a, cs[0], next, &cs[next - at..], out, end)
 }
 
 // `count` items of node `node`, one after another.
 #[cycle(walk)]
 pub(crate) fn put_items(
-    table: &[u8],
+    checked: &Checked,
     node: usize,
     count: u64,
     at: usize,
     cs: &[u64],
     out: &mut [u8],
     pos: usize,
-) -> Put
-    requires { Puttable table.now node at cs.now pos }
-    ensures answers { result ≡ put_of at pos (put (array count (ty_at table.now node)) at cs.now) }
-    ensures writes { Landed pos (put (array count (ty_at table.now node)) at cs.now) out.old out.new }
+) -> Answer<(usize, usize)>
+    requires { Puttable checked.now.table.now node at cs.now pos }
+    ensures { PutsAt at pos (put (array count (ty_at checked.now.table.now node)) at cs.now) out.old out.new result }
 {
     let mut rest = cs;
     let mut next = at;
     let mut end = pos;
-    let mut left = count;
-    while 0 < left {
-        match put_item(table, node, next, rest, out, end) {
-            Put::Refused(y) => {
-                return Put::Refused(y);
-            }
-            Put::Done(c, e) => {
-                let n = c - next;
-                rest = &rest[n..];
-                next = c;
-                end = e;
-                left -= 1;
-            }
-        }
+    for _ in 0..count {
+        let (c, e) = put_item(checked, node, next, rest, out, end)?;
+        rest = &rest[c - next..];
+        next = c;
+        end = e;
     }
-    Put::Done(next, end)
+    Ok((next, end))
 }

@@ -1,11 +1,14 @@
-use native.Mathlib.Omega.{arith}
-use Rattle.leaf_put.proofs.Lanes.{lanes_put, count_few}
+use Rattle.std.proofs.Common.{arith}
+use Rattle.leaf_put.proofs.Lanes.{head_small, lanes_count, lanes_put}
 use Rattle.leaf_put.proofs.put_lanes.Goals as goal
 
-pub overflow_add-result-2 : goal.overflow_add-result-2
-overflow_add-result-2 c = omega (arith, c.put-head.ensures.answers, count_few _ c.requires.0, c.requires.0)
+pub overflow_add-result : goal.overflow_add-result
+overflow_add-result c = omega (arith, c.div_ceil.ensures, head_small c.args.n _ c.requires.all_there c.from.ensures c.put-head.ensures.answers c.requires.few)
 
-pub returns : goal.returns
-returns c =
-    let both = lanes_put _ _ c.requires.1 _ _ _ _ _ (omega (arith, c.well_formed)) c.put-head.ensures.answers c.put-head.ensures.writes (rw c.further.ensures at c.write.ensures.writes) in
-    record { answers = both.0; writes = both.1 }
+pub returns-clause-answers : goal.returns-clause-answers
+returns-clause-answers c = omega (arith, c.div_ceil.ensures, lanes_count c.args.n _ c.requires.all_there c.from.ensures c.put-head.ensures.answers)
+
+pub returns-clause-writes : goal.returns-clause-writes
+returns-clause-writes c =
+    lanes_put _ _ c.requires.all_there c.from.ensures c.put-head.ensures.answers _ _ (omega (arith, c.well_formed)) c.put-head.ensures.writes
+    (rw c.saturating_add.ensures at c.write.ensures.writes)

@@ -1,11 +1,9 @@
+use Rattle.std.proofs.Common.{◌∙◌}
 use Rattle.leaf_put.proofs.Leaves.{halves_few, halves_both}
-use Rattle.leaf_put.specs.Landed.{Took}
 use Rattle.leaf_put.proofs.two_cells.Goals as goal
 
 pub returns-then-cs-lt2 : goal.returns-then-cs-lt2
-unfolding Took
-returns-then-cs-lt2 c = halves_few _ _ c.if-cs-lt2.true c.because.ensures
+returns-then-cs-lt2 c = c.refuse.ensures ∙ halves_few _ c.if-cs-lt2.true
 
 pub returns : goal.returns
-unfolding Took
-returns c = halves_both _ c.if-cs-lt2.false
+returns c = halves_both _ c.if-cs-lt2.false (c.type_inv.cs 0).fits

@@ -1,14 +1,12 @@
 use Rattle.rules.specs.Put.{put_leaf}
+use Rattle.rules.specs.Types.{leaf}
 use Rattle.rules.proofs.Laws.Put.{put_leaf_lem}
 use Rattle.rules.proofs.Laws.Put.Relative.{put_leaf_relative}
-use Rattle.rules.specs.Types.{leaf}
 use Rattle.put.proofs.Placing.{fits_there, put_there}
 use Rattle.put.proofs.single.put_leaf.Goals as goal
 
 pub placed-requires : goal.placed-requires
-placed-requires c = fits_there (put_leaf _) (put_leaf_relative _) _ _ _ c.put_leaf.ensures.answers (leaf _) (put_leaf_lem _ _ _) c.requires
+placed-requires c = fits_there (put_leaf _) (put_leaf_relative _) _ _ c.put_leaf.ensures (leaf _) (put_leaf_lem _ _ _) c.requires
 
 pub returns : goal.returns
-returns c =
-    let both = put_there (put_leaf _) (put_leaf_relative _) _ _ _ c.put_leaf.ensures.answers _ _ c.put_leaf.ensures.writes c.placed.ensures in
-    record { answers = both.0; writes = both.1 }
+returns c = put_there (put_leaf _) (put_leaf_relative _) _ _ c.put_leaf.ensures c.placed.ensures

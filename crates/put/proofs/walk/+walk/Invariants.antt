@@ -1,7 +1,7 @@
 -- What falls, and what the loop keeps. No call goes on for ever: with i for the index of the node that a call is at, or the larger of its two, an item counts 3 * i,
 -- a row of items 3 * i + 1 and each kind's own function 3 * i + 2. An item's children have smaller indices, a kind's function calls items at the same index, or a row
 -- of them, and a row calls its items.
-use Rattle.std.proofs.Common.{◌+◌, ◌*◌, max}
+use Rattle.std.proofs.Common.{◌+◌, ◌-◌, ◌*◌, max}
 use Rattle.put.proofs.Walking.{Looping}
 use Rattle.put.proofs.walk.+walk.Given as goal
 
@@ -23,8 +23,5 @@ decreases-put_vector l = 3 * l.a + 2
 abbrev pub decreases-put_items : goal.decreases-put_items
 decreases-put_items l = 3 * l.node + 1
 
-abbrev pub invariant-put_items-loop-left : goal.invariant-put_items-loop-left
-invariant-put_items-loop-left l = Looping l.table l.node l.count l.at l.cs l.pos l.initial.out l.out l.rest l.next l.end l.left
-
-abbrev pub decreases-put_items-loop-left : goal.decreases-put_items-loop-left
-decreases-put_items-loop-left l = l.left
+abbrev pub invariant-put_items-loop : goal.invariant-put_items-loop
+invariant-put_items-loop l = Looping l.checked.table.now l.node l.count l.at l.cs l.pos l.initial.out l.out l.rest l.next l.end (l.count - l.counter)
