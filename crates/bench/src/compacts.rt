@@ -24,7 +24,8 @@ fn table_accepts(width: Width, bytes: &[u8], value: u64) -> bool {
 fn accepts(width: Width, bytes: &[u8], value: u64) -> bool {
     let value = Halves::from(value);
     let encoded = compact_put::write(value);
-    compact::read(bytes, width) == Ok((value, bytes.len())) && &encoded.bytes[..encoded.len] == bytes
+    compact::read(bytes, width) == Ok((value, bytes.len()))
+        && &encoded.bytes[..encoded.len] == bytes
 }
 
 fn say_compact(rt: &impl Print, same: bool, name: &[u8], width: Width, how: &[u8], bytes: &[u8]) {

@@ -185,7 +185,9 @@ fn run_read(mut fields: Fields) -> Result<(), Failure> {
 
 // Does the size that is found without writing go with the answer that the case says? It is the same answer, but where the output was too small.
 fn size_agrees(answer: Answer<usize>, expected: [u64; 3], room: usize) -> bool {
-    if let Ok(n) = answer && expected[0] == 22 {
+    if let Ok(n) = answer
+        && expected[0] == 22
+    {
         return room < n;
     }
     of_written(answer) == expected

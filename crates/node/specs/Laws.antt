@@ -1,5 +1,5 @@
 -- Laws of a node: which one `node_in_lem` gives, and what a caller knows of it.
-use Rattle.std.specs.Prelude.{Bool, true, false, List, [], ◌∷◌, ◌≡◌, refl, ℕ, ◌+◌, ◌*◌, ◌<◌, eqb, length, Option, Some, None, option_map, MatchOption, IsSomeAnd}
+use Rattle.std.specs.Prelude.{Bool, true, false, List, ◌≡◌, refl, ℕ, ◌+◌, ◌*◌, ◌<◌, eqb, length, Option, Some, None, option_map, MatchOption, IsSomeAnd}
 use Rattle.std.proofs.Common.{ap, sym, ◌∙◌, subst, arith, le-leb}
 use Rattle.rules.specs.Basics.{pick}
 use Rattle.rules.specs.Types.{Ty}

@@ -1,50 +1,13 @@
 -- Texts put one after another.
-use Rattle.std.proofs.Common.{◌≡◌, ℕ, ◌+◌, ◌-◌, ◌*◌, ◌≤◌, ◌<◌, min, Bool, true, false, leb, List, [], ◌∷◌, ◌++◌, length, take, drop, get_or, refl, ap, sym, ◌∙◌, subst, append_assoc, append-nil, arith, add-zero, add-one, take-suc, take_all, take-append-drop, drop-drop, length-append, length-take, length-take-le, leb-true, leb-false, MutBor}
-use Rattle.std.proofs.lemmas.List.Edits.{sets, sets-eq}
+use Rattle.std.proofs.Common.{◌≡◌, ℕ, ◌+◌, ◌*◌, ◌≤◌, ◌<◌, List, [], ◌∷◌, ◌++◌, length, take, get_or, refl, ap, sym, ◌∙◌, subst, append_assoc, append-nil, arith, add-zero, add-one, take-suc, length-append, length-take, MutBor}
+use Rattle.std.proofs.lemmas.List.Edits.{sets}
 use Rattle.rules.specs.Basics.{flat}
-use Rattle.rules.proofs.Laws.Places.{sets_join, sets_length, sets_out}
+use Rattle.rules.proofs.Laws.Places.{sets_join}
 use Rattle.report.specs.Text.{spaced, cell_line}
 use Rattle.report.specs.Contract.{Contract}
 use Rattle.report.specs.Writer.{Adds, ended}
 use Rattle.report.specs.declared.Writer.{Writer}
 use Rattle.report.proofs.Answers.{cells_length}
-
--- ---- a text, as far as it goes in
-
--- what reaches the end of the memory is as good as all
-cut_put : (s l : List ℕ) (e n : ℕ) → (n < length s → length l ≤ e + n) → sets l e (take n s) ≡ sets l e s
-cut_put s l e n h = go (leb (length s) n) refl
-  where
-    go : (b : Bool) → leb (length s) n ≡ b → sets l e (take n s) ≡ sets l e s
-    go true q = ap (sets l e) (take_all n s (leb-true (length s) n q))
-    go false q =
-        let less : n < length s = leb-false (length s) n q in
-        let k : length (take n s) ≡ n = length-take-le n s (omega arith) in
-        sym (sets_out (drop n s) (sets l e (take n s)) (e + length (take n s)) (omega (arith, sets_length (take n s) l e, h less)))
-        ∙ sets_join (take n s) (drop n s) l e ∙ ap (sets l e) (take-append-drop n s)
-
--- from e on, or from the end of the memory on if that comes first
-near_put : (s l : List ℕ) (e at : ℕ) → at ≡ min e (length l) → sets l at s ≡ sets l e s
-near_put s l e at p = go (leb e (length l)) refl
-  where
-    go : (b : Bool) → leb e (length l) ≡ b → sets l at s ≡ sets l e s
-    go true q = ap (λ (i : ℕ). sets l i s) (omega (arith, leb-true e (length l) q))
-    go false q =
-        let past : length l < e = leb-false e (length l) q in
-        sets_out s l at (omega arith) ∙ sym (sets_out s l e (omega arith))
-
--- n elements of the text are copied to the part `at..at + n`
-pub copied : (s l t : List ℕ) (e at n : ℕ) → at ≡ min e (length l) → n ≡ min (length s) (length l - at) → t ≡ take n s
-    → take at l ++ (t ++ drop (at + n - at) (drop at l)) ≡ sets l e s
-copied s l t e at n p q r =
-    let k : length (take n s) ≡ n = length-take-le n s (omega arith) in
-    let j : at + n - at ≡ length (take n s) = omega arith in
-    ap (λ (x : List ℕ). take at l ++ (x ++ drop (at + n - at) (drop at l))) r
-    ∙ ap (λ (x : ℕ). take at l ++ (take n s ++ drop x (drop at l))) j
-    ∙ ap (λ (x : List ℕ). take at l ++ (take n s ++ x)) (drop-drop (length (take n s)) at l)
-    ∙ sym (append_assoc (take at l) (take n s) (drop (at + length (take n s)) l))
-    ∙ sym (sets-eq (take n s) l at (omega arith))
-    ∙ cut_put s l at n (λ h. omega arith) ∙ near_put s l e at p
 
 -- ---- one text, and another behind it
 
