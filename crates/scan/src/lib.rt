@@ -1,5 +1,5 @@
-// The walk over a message by a table, under limits: one walker decides, with no cells lent, and fills, with cells lent, since a cell past the end of what was lent
-// is not written.
+// The walk over a message by a table, under limits: one walker decides, with no cells lent, and fills, with cells lent, since a cell past the end of what was
+// lent is not written.
 #![tactic(auto)]
 
 mod bits;
