@@ -123,6 +123,7 @@ fn put_lanes(n: u64, cs: &[u64], out: &mut [u8], pos: usize) -> usize
     ensures writes { out.new ≡ sets out.old pos (bits_bytes (lanes 64 n (take (words64 n) cs.now))) }
 {
     let head = compact_put::put(Halves::from(n), out, pos);
+    // All cells are there, so it does write.
     bit_vec::write(n, cs, out, pos.saturating_add(head));
     head + (n as usize).div_ceil(8)
 }

@@ -38,20 +38,14 @@ fn put_root(checked: &Checked, part: Part, cells: &[u64], out: &mut [u8]) -> Ans
     }
 }
 
-// The same with no output.
-fn measure_root(checked: &Checked, part: Part, cells: &[u64]) -> Answer<(usize, usize)>
-    ensures { result ≡ put_of 0 0 (part_put part (root checked.now.table.now) cells.now) }
-{
-    put_root(checked, part, cells, &mut [])
-}
-
 // Puts a part at the front of the output, if all cells are taken for it and all its bytes go in; the answer is how far it got with no bound.
 pub fn put_part(table: &[u8], part: Part, cells: &[u64], out: &mut [u8]) -> Answer<(usize, usize)>
     ensures answers { result ≡ put_of 0 0 (part_in part table.now cells.now) }
     ensures writes { out.new ≡ output_after (part_out part table.now cells.now (length out.old)) out.old }
 {
     let checked = table::checked(table)?;
-    let (taken, used) = measure_root(&checked, part, cells)?;
+    // With no output first, to decide.
+    let (taken, used) = put_root(&checked, part, cells, &mut [])?;
     if taken < cells.len() || out.len() < used {
         return Ok((taken, used));
     }

@@ -125,6 +125,7 @@ pub(crate) fn put_items(
     requires { Puttable checked.now.table.now node at cs.now pos }
     ensures { PutsAt at pos (put (array count (ty_at checked.now.table.now node)) at cs.now) out.old out.new result }
 {
+    // Where an item starts is known once the one before it is put, so no iterator hands out the cells.
     let mut rest = cs;
     let mut next = at;
     let mut end = pos;
