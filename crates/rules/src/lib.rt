@@ -122,13 +122,6 @@ impl From<u64> for Halves {
     }
 }
 
-// The cells of a leaf's value: one, or those of the two halves, the low half first.
-#[derive(Clone, Copy)]
-pub enum Cells {
-    One(u64),
-    Two(Halves),
-}
-
 // The most bits of a bit vector, the largest footprint, and the largest count of a vector.
 pub const MAX_BITS: u64 = 0x1fff_ffff;
 
