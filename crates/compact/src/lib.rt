@@ -34,7 +34,7 @@ impl From<Fault> for Reason {
 // What reading answers: a value with the bytes that it took.
 pub type Reading = Result<(Halves, usize), Fault>;
 
-// A width's bytes.
+// A width's bytes. They are not the cases' own numbers, since by these the table of longest lengths is read.
 pub fn size(width: Width) -> u8
     ensures { result ≡ size width }
 {
@@ -58,7 +58,8 @@ pub fn significant(value: Halves) -> u8
     }
 }
 
-// The form that a first byte chooses.
+// The form that a first byte chooses. It is the two bits themselves, as the format has them: an enum of four cases would be made by one match and taken apart by
+// the next.
 fn form(b: u8) -> u8
     ensures { result ≡ b % 4 }
 {

@@ -10,7 +10,7 @@ ghost use Rattle.compact_put.specs.Padded.{padded, OfForm};
 
 use rules::{Halves, Width};
 
-// One encoding by value, beside its length. The bytes past the length are 0.
+// One encoding by value, beside its length. The bytes past the length are 0. (The array stands for the crate's `ArrayVec`, since nothing here allocates.)
 #[derive(Clone, Copy)]
 pub struct Encoded {
     pub bytes: [u8; 17],

@@ -18,7 +18,7 @@ fn store_zeros(cells: &mut [u64], at: u64, n: u64)
     cells[at..at + n].fill(0);
 }
 
-// The limits, and what was met so far.
+// The limits, and what was met so far. The lent cells stand beside it in each call: in one record with them it could not go on by value.
 #[derive(Clone, Copy)]
 pub struct Meter {
     pub limits: Limits,

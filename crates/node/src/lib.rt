@@ -11,7 +11,7 @@ use rules::{Leaf, Node, Width};
 fn word(low: u8, high: u8) -> u16
     ensures { result ≡ low + 256 * high }
 {
-    low as u16 + 256 * high as u16
+    u16::from_le_bytes([low, high])
 }
 
 // The width of `a` bytes, if there is one.

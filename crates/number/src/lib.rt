@@ -22,7 +22,7 @@ pub fn word(t: &[u8], n: usize) -> u64
     u64::from_le_bytes(bytes)
 }
 
-// Writes the lowest n bytes of x from place `at` on. (n may be more than the eight that x has: the others are 0.)
+// Writes the lowest n bytes of x from place `at` on. Its loop stands since n may be more than the eight that `to_le_bytes` gives: the others are 0.
 pub fn put(out: &mut [u8], at: usize, x: u64, n: usize)
     ensures { out.new ≡ sets out.old at (le_bytes n x) }
 {

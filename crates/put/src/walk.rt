@@ -1,5 +1,6 @@
 // The writing walkers, over the cells as reading goes over bytes: the item writer calls the writer of the node's kind and is called back, with the table index
-// and the items left falling. Each item takes a cell or is refused, so work is bounded by the cells given, whatever a count says.
+// and the items left falling. Each item takes a cell or is refused, so work is bounded by the cells given, whatever a count says. How far the cells and the output
+// have been reached stands beside them, and in an answer: a record of both, lent on, would have to say on each refusal too how far it is.
 ghost use Rattle.rules.specs.Put.{put};
 ghost use Rattle.rules.specs.Table.{ty_at};
 ghost use Rattle.rules.specs.Types.{array, option, result as result_type, pair, vector};

@@ -18,7 +18,7 @@ const MEMORY: u64 = 65536;
 
 const CELLS: usize = 4096;
 
-// A file is missing or too large: the program's own refusal number.
+// A file is missing or too large: the program's own refusal number. No reader answers it, so it is no `Reason`.
 const UNREADABLE: u32 = 40;
 
 // No report is longer: a line of `ok` and four numbers, and a line for each of 4096 cells, all numbers of 20 digits.

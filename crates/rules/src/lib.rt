@@ -26,7 +26,8 @@ pub enum Leaf {
     Float(Width),
 }
 
-// A node of the table, with its children's indices: of an array the number of items stands first. Unknown is a node that no kind allows.
+// A node of the table, with its children's indices: of an array the number of items stands first. Unknown is a node that no kind allows: a case beside the kinds,
+// since what a walk does at each of them is one match, and an Option around it would be a match in each arm.
 #[derive(Clone, Copy)]
 pub enum Node {
     Leaf(Leaf),

@@ -1,5 +1,6 @@
 // The table-driven walkers: the item walker calls the walker of the node's kind and is called back, with the table index and the items left falling. A vector's
-// items are a loop, so the stack depends on the table alone, whatever a message counts.
+// items are a loop, so the stack depends on the table alone, whatever a message counts. The offset stands beside the rest of the message, which is handed on as
+// a part of the slice.
 ghost use Rattle.rules.specs.Types.{option, result as result_type, pair, vector};
 ghost use Rattle.rules.specs.Scan.Landing.{Lands};
 ghost use Rattle.rules.specs.Scan.Pass.{pass_at, items};

@@ -3,7 +3,7 @@ ghost use Rattle.std.specs.Prelude.{◌≡◌, ◌-◌, ◌≤◌, ◌<◌};
 ghost use Rattle.rules.specs.Table.{check_table, fine, numbers_of, count};
 ghost use Rattle.rules.specs.Totals.{foot};
 
-// The table, and the footprint of each node: 0 past the last one.
+// The table, and the footprint of each node: 0 past the last one. The places are 64, as many as a table may have nodes, since nothing here allocates.
 #[derive(Clone, Copy)]
 pub struct Checked<'a> {
     pub table: &'a [u8],
