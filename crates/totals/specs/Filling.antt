@@ -1,10 +1,12 @@
 -- Laws of the loop that fills an array with longest lengths.
 use Rattle.std.specs.Prelude.{List, ◌≡◌, ℕ, ◌-◌, ◌≤◌, ◌<◌, get_or, Option, None}
-use Rattle.std.proofs.Common.{ap, sym, ◌∙◌, arith}
+use Rattle.std.proofs.Common.{ap, sym, ◌∙◌, subst, arith}
 use Rattle.rules.specs.Totals.{longest}
-use Rattle.rules.specs.Table.{count, node_at, ty_at, root}
+use Rattle.rules.specs.Table.{count, node_at, node_in, ty_at, root}
 use Rattle.rules.specs.Table.Laws.{Good}
 use Rattle.rules.proofs.Laws.Table.{type_node}
+use Rattle.node.specs.Laws.{node_good}
+use Rattle.node.specs.Names.{Node}
 use Rattle.table.specs.Filling.{Measuring, measuring_every}
 use Rattle.totals.specs.Nodes.{longest_over, Short, AllShort}
 use Rattle.totals.specs.Laws.{longest_over_lem, longest_short}
@@ -20,3 +22,9 @@ module _ (tb : List ℕ) (G : Good tb) (i : ℕ) (l : List (Option ℕ)) (M : Me
 
   pub length_found : i < count tb → longest_over (λ j. get_or l j None) (node_at tb i) ≡ longest (ty_at tb i)
   length_found r = longest_over_lem (λ j. get_or l j None) (ty_at tb) i (node_at tb i) (G.nodes i r) M.done ∙ ap longest (sym (type_node tb G i r))
+
+  -- what is found of the next node from its children is its type's, and short
+  pub length_next : i < count tb → (n : Node) → n ≡ node_in tb i → (k : Option ℕ) → k ≡ longest_over (λ j. get_or l j None) n → (k ≡ longest (ty_at tb i)) × Short k
+  length_next r n q k e =
+      let found : k ≡ longest (ty_at tb i) = e ∙ ap (longest_over (λ j. get_or l j None)) (q ∙ node_good tb G i r) ∙ length_found r in
+      (found, subst Short (sym found) (longest_short (ty_at tb i) (G.feet i r)))

@@ -20,7 +20,7 @@ longest_over f (vector_node a) = None
 longest_over f bits_node = None
 longest_over f unknown = Some 0
 
--- a longest length that is far from wrapping, or none
+-- a longest length that 32 bits hold, or none
 abbrev pub Short : Option ℕ → Type 0
 Short o = IfSome o (λ n. n < 2 ^ 32)
 

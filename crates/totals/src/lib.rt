@@ -5,7 +5,7 @@ ghost use Rattle.std.specs.Prelude.{◌≡◌, ◌+◌, ◌-◌, ◌*◌, ◌≤
 ghost use Rattle.rules.specs.Basics.{pick};
 ghost use Rattle.rules.specs.Totals.{leaf_longest, join, foot, longest as longest_length};
 ghost use Rattle.rules.specs.Table.{check_table, fine, numbers_of, unit_code, units_of, longest_of, root};
-ghost use Rattle.totals.specs.Nodes.{longest_over, Short, AllShort, behind_tag, kept, units_over};
+ghost use Rattle.totals.specs.Nodes.{longest_over, Short, behind_tag, kept, units_over};
 
 use rules::{Answer, Leaf, Node};
 use table::{Checked, found_at};
@@ -27,33 +27,29 @@ fn leaf_longest(leaf: Leaf) -> u64
 }
 
 // A tag and the longer of two, where both have a longest length.
-fn tagged(x: Option<u64>, y: Option<u64>) -> Option<u64>
-    requires { Short x × Short y }
+fn tagged(x: Option<u32>, y: Option<u32>) -> Option<u64>
     ensures { result ≡ join behind_tag x y }
 {
-    Some(1 + x?.max(y?))
+    Some(1 + x?.max(y?) as u64)
 }
 
 // One after the other, where both have a longest length.
-fn sum(x: Option<u64>, y: Option<u64>) -> Option<u64>
-    requires { Short x × Short y }
+fn sum(x: Option<u32>, y: Option<u32>) -> Option<u64>
     ensures { result ≡ join ◌+◌ x y }
 {
-    Some(x? + y?)
+    Some(x? as u64 + y? as u64)
 }
 
 // `n` times the same, if it has a longest length.
-fn times(n: u16, x: Option<u64>) -> Option<u64>
-    requires { Short x }
+fn times(n: u16, x: Option<u32>) -> Option<u64>
     ensures { result ≡ join ◌*◌ (Some n) x }
 {
-    Some(n as u64 * x?)
+    Some(n as u64 * x? as u64)
 }
 
 // The longest length of a node, from those of its children, which stand in `lengths`.
 #[tactic(auto, unfolding(crate::specs::Nodes::longest_over))]
-fn longest_of(node: Node, lengths: &[Option<u64>]) -> Option<u64>
-    requires { AllShort lengths.now }
+fn longest_of(node: Node, lengths: &[Option<u32>]) -> Option<u64>
     ensures { result ≡ longest_over (λ j. get_or lengths.now j None) node }
 {
     match node {
@@ -68,13 +64,28 @@ fn longest_of(node: Node, lengths: &[Option<u64>]) -> Option<u64>
     }
 }
 
+// A longest length in 32 bits, where all of a checked table fit.
+fn narrow(length: Option<u64>) -> Option<u32>
+    requires { Short length }
+    ensures { result ≡ length }
+{
+    Some(length? as u32)
+}
+
+// The same in 64 bits.
+fn widen(length: Option<u32>) -> Option<u64>
+    ensures { result ≡ length }
+{
+    Some(length? as u64)
+}
+
 // The root's longest length: the nodes rising, so that each node's children come before it.
-fn measure(checked: &Checked) -> Option<u64>
+fn measure(checked: &Checked) -> Option<u32>
     ensures { result ≡ longest_length (root checked.now.table.now) }
 {
     let mut lengths = [None; 64];
     for i in 0..checked.count() {
-        lengths[i] = longest_of(node::node_at(checked.table, i), &lengths);
+        lengths[i] = narrow(longest_of(node::node_at(checked.table, i), &lengths));
     }
     lengths[checked.root()]
 }
@@ -84,7 +95,7 @@ pub fn longest(table: &[u8]) -> Answer<Option<u64>>
     ensures { result ≡ longest_of table.now }
 {
     let checked = table::checked(table)?;
-    Ok(measure(&checked))
+    Ok(widen(measure(&checked)))
 }
 
 // ---- units

@@ -4,24 +4,21 @@ use Rattle.std.specs.Prelude.{None}
 use Rattle.rules.specs.Table.{count}
 use Rattle.rules.specs.Table.Laws.{Good}
 use Rattle.rules.proofs.Laws.Table.{check_good}
-use Rattle.node.specs.Laws.{node_good}
 use Rattle.table.specs.Filling.{measuring_none, measuring_more}
-use Rattle.totals.specs.Nodes.{longest_over}
-use Rattle.totals.specs.Filling.{lengths_short, length_root, length_found}
+use Rattle.totals.specs.Filling.{length_root, length_next}
 use Rattle.totals.proofs.measure.Goals as goal
 
 pub loop-i-init : goal.loop-i-init
 loop-i-init c = measuring_none _ _ _
 
-pub longest_of-requires : goal.longest_of-requires
-longest_of-requires c = lengths_short _ (check_good _ c.args.checked.now.fine) _ _ c.loop-i.invariant
+pub narrow-requires : goal.narrow-requires
+narrow-requires c = (length_next _ (check_good _ c.args.checked.now.fine) _ _ c.loop-i.invariant (omega (arith, c.loop-i-test.true, c.count-i-end.ensures.counted)) _ c.node_at.ensures _ c.longest_of.ensures).1
 
 pub loop-i-preserved : goal.loop-i-preserved
 loop-i-preserved c =
     let good : Good c.args.checked.now.table.now = check_good _ c.args.checked.now.fine in
     let there : c.loop-i.i < count c.args.checked.now.table.now = omega (arith, c.loop-i-test.true, c.count-i-end.ensures.counted) in
-    measuring_more c.loop-i.invariant good.few there _
-    (c.longest_of.ensures ∙ ap (longest_over (λ j. get_or c.loop-i.lengths j None)) (c.node_at.ensures ∙ node_good _ good _ there) ∙ length_found _ good _ _ c.loop-i.invariant there)
+    measuring_more c.loop-i.invariant good.few there _ (c.narrow.ensures ∙ (length_next _ good _ _ c.loop-i.invariant there _ c.node_at.ensures _ c.longest_of.ensures).0)
 
 pub returns : goal.returns
 returns c =
