@@ -25,18 +25,25 @@ pub enum Op {
     Append = 7,
 }
 
-// The op of this format that a number stands for.
-pub fn known(number: u8) -> Option<Op> {
-    match number {
-        1 => Some(Op::CompactRead),
-        2 => Some(Op::CompactWrite),
-        3 => Some(Op::TableCheck),
-        4 => Some(Op::Longest),
-        5 => Some(Op::Read),
-        6 => Some(Op::Write),
-        7 => Some(Op::Append),
-        _ => None,
+impl Op {
+    // The op of this format that a number stands for.
+    pub fn of(number: u8) -> Option<Op> {
+        match number {
+            1 => Some(Op::CompactRead),
+            2 => Some(Op::CompactWrite),
+            3 => Some(Op::TableCheck),
+            4 => Some(Op::Longest),
+            5 => Some(Op::Read),
+            6 => Some(Op::Write),
+            7 => Some(Op::Append),
+            _ => None,
+        }
     }
+}
+
+// Whether a number stands for an op of this format.
+pub fn known(number: u8) -> bool {
+    Op::of(number).is_some()
 }
 
 impl fmt::Display for Op {
@@ -54,4 +61,6 @@ pub enum Failure {
     Differs(usize),
     // The body is not what the op needs: not just its fields, a field beyond the bounds, or a number that means nothing there.
     Misfit,
+    // No op of this format.
+    Unknown,
 }

@@ -229,16 +229,23 @@ fn run_append(mut fields: Fields) -> Result<(), Failure> {
 
 // ---- all
 
-// Runs a case, from its op and its body.
-pub fn run(op: Op, body: &[u8]) -> Result<(), Failure> {
-    let fields = Fields::new(body);
-    match op {
-        Op::CompactRead => run_compact_read(fields),
-        Op::CompactWrite => run_compact_write(fields),
-        Op::TableCheck => run_table_check(fields),
-        Op::Longest => run_longest(fields),
-        Op::Read => run_read(fields),
-        Op::Write => run_write(fields),
-        Op::Append => run_append(fields),
+impl Op {
+    // Runs a case of this op, from its body.
+    pub fn run(self, body: &[u8]) -> Result<(), Failure> {
+        let fields = Fields::new(body);
+        match self {
+            Op::CompactRead => run_compact_read(fields),
+            Op::CompactWrite => run_compact_write(fields),
+            Op::TableCheck => run_table_check(fields),
+            Op::Longest => run_longest(fields),
+            Op::Read => run_read(fields),
+            Op::Write => run_write(fields),
+            Op::Append => run_append(fields),
+        }
     }
+}
+
+// The same from the number of an op.
+pub fn run(number: u8, body: &[u8]) -> Result<(), Failure> {
+    Op::of(number).ok_or(Failure::Unknown)?.run(body)
 }

@@ -66,10 +66,11 @@ fn run_body(file: &mut impl Read, op: Op, length: usize) -> Result<Outcome, Dama
     let mut room = [0u8; LONGEST_BODY];
     let body = room.get_mut(..length).ok_or(Damage::Misfit(op))?;
     fill(file, body)?;
-    match cases::run(op, body) {
+    match op.run(body) {
         Ok(()) => Ok(Outcome::Same),
         Err(Failure::Differs(field)) => Ok(Outcome::Differs(op, field)),
         Err(Failure::Misfit) => Err(Damage::Misfit(op)),
+        Err(Failure::Unknown) => Ok(Outcome::Unknown),
     }
 }
 
@@ -81,7 +82,7 @@ fn next_case(file: &mut impl Read) -> Result<Option<Outcome>, Damage> {
     let mut length = [0u8; 4];
     fill(file, &mut length)?;
     let length = u32::from_le_bytes(length) as usize;
-    let outcome = match cases::known(number) {
+    let outcome = match Op::of(number) {
         Some(op) => run_body(file, op, length)?,
         None => {
             pass_over(file, length)?;

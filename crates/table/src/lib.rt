@@ -19,10 +19,7 @@ fn is_marked(table: &[u8]) -> bool
     requires { 6 ≤ length table.now }
     ensures { result ≡ marked table.now }
 {
-    if table[0] != b'W' || table[1] != b'T' || table[2] != b'D' || table[3] != 1 {
-        return false;
-    }
-    table[4] == 0
+    table[..5] == b"WTD\x01\x00"[..]
 }
 
 // Does the table have 1 to 64 nodes, and the length that their count says?

@@ -1,5 +1,5 @@
 -- Laws of nodes of footprint 0, which have only units: how many they have, and what a caller finds at a node's place among the numbers of a table.
-use Rattle.std.specs.Prelude.{Bool, List, ◌≡◌, ℕ, zero, suc, ◌+◌, ◌-◌, ◌*◌, ◌/◌, ◌^◌, ◌≤◌, ◌<◌, min, get_or}
+use Rattle.std.specs.Prelude.{Bool, List, ◌≡◌, ℕ, zero, suc, ◌+◌, ◌-◌, ◌*◌, ◌/◌, ◌^◌, ◌≤◌, ◌<◌, min, get_or, Ok}
 use Rattle.std.proofs.Math.Bool.{true, false}
 use Rattle.std.proofs.Math.Path.{refl, ap}
 use Rattle.std.proofs.Common.{sym, ◌∙◌, subst, eqb-true, eq-eqb, div-lt_iff_lt-mul, le-div_iff_mul-le, arith}
@@ -9,9 +9,9 @@ use Rattle.std.proofs.Math.Dec.{eqb}
 use Rattle.rules.specs.Basics.{pick}
 use Rattle.rules.specs.Types.{Ty}
 use Rattle.rules.specs.Totals.{foot, unit_cells}
-use Rattle.rules.specs.Table.{count, b_at, node_at, build, ty_at, numbers_of, unit_code, units_of}
+use Rattle.rules.specs.Table.{count, b_at, node_at, build, ty_at, numbers_of, footprints_of, unit_code, units_of}
 use Rattle.rules.specs.Table.Laws.{Below, Good}
-use Rattle.rules.proofs.Laws.Table.{type_node, good_check, numbers_at}
+use Rattle.rules.proofs.Laws.Table.{type_node, good_check, numbers_at, footprints_found}
 use Rattle.node.specs.Names.{Node, leaf_node, option_node, result_node, pair_node, array_node, vector_node, bits_node, unknown}
 use Rattle.table.specs.Nodes.{Counted}
 use Rattle.table.specs.Laws.{counted_at}
@@ -111,6 +111,10 @@ module _ (tb : List ℕ) (G : Good tb) where
     -- and which nodes these are is seen at their places among the footprints
     pub feet_at : get_or (numbers_of foot tb) i 0 ≡ foot (ty_at tb i)
     feet_at = numbers_at foot tb i r
+
+    -- (by the check's answer)
+    pub feet_found : (l : List ℕ) → footprints_of tb ≡ Ok l → get_or l i 0 ≡ foot (ty_at tb i)
+    feet_found l e = ap (λ k. get_or k i 0) (footprints_found tb l (sym e)).1 ∙ feet_at
 
     -- what is found of a node from its footprint and its children's numbers
     module _ (f : ℕ → ℕ) (h : (j : ℕ) → j < i → f j ≡ unit_code (ty_at tb j)) where
