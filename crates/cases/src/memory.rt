@@ -1,4 +1,4 @@
-// The memory that a case lends: room for the longest that the format allows, of which so much is used.
+// The memory that a case lends: room for the longest that the format allows, of which so much is used, since nothing here allocates.
 ghost use Rattle.std.specs.Prelude.{◌≤◌, length};
 
 use crate::Failure;

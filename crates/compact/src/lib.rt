@@ -34,7 +34,8 @@ impl From<Fault> for Reason {
 // What reading answers: a value with the bytes that it took.
 pub type Reading = Result<(Halves, usize), Fault>;
 
-// A width's bytes. They are not the cases' own numbers, since by these the table of longest lengths is read.
+// A width's bytes. They are not the cases' own numbers: by these the table of longest lengths is read, and a shift
+// by them would hide which width has which size.
 pub fn size(width: Width) -> u8
     ensures { result ≡ size width }
 {

@@ -1,5 +1,6 @@
 // Reading any bytes under limits, by any table: at the front of a message or the whole of it, into lent cells or only to measure. A reading goes over the
 // message twice: first with no cells, to decide, and then, if it is accepted, to fill; so a refusal leaves the lent cells as they were.
+// The four readers stay four by name, since callers know them; each is a few lines over what they share.
 #![tactic(auto)]
 
 ghost use Rattle.std.specs.Prelude.{◌≡◌, length};

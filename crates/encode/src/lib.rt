@@ -1,4 +1,5 @@
-// Writing cells as bytes, by any table: what is put, or the number and place of what refuses it.
+// Writing cells as bytes, by any table: what is put, or the number and place of what refuses it. The four writers stay four by name, since callers know them; each
+// is a line over `size_of` or `write_part`.
 #![tactic(auto)]
 
 ghost use Rattle.std.specs.Prelude.{◌≡◌, ◌-◌, ◌^◌, length};

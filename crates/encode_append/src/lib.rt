@@ -32,7 +32,7 @@ fn check_root(table: &[u8]) -> Answer<()>
     ensures { result ≡ root_check table.now }
 {
     let checked = table::checked(table)?;
-    match node::node_at(checked.table, checked.root()) {
+    match checked.node_at(checked.root()) {
         Node::Vector(_) => Ok(()),
         _ => refuse(Reason::AppendRoot, 0),
     }

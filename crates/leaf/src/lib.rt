@@ -1,4 +1,5 @@
 // Scalars and counts at the front of a message: a leaf's value in two halves. Floats and signed integers are their bits, and no bit of them is looked at.
+// The offset `at`, beside the bytes that start there, is looked at for the place of a refusal alone.
 #![tactic(auto)]
 
 ghost use Rattle.std.specs.Prelude.{◌≡◌};
@@ -33,6 +34,7 @@ fn number_from(width: Width, at: usize, s: &[u8]) -> Answer<(Halves, usize)>
     Ok((number::halves(s, n), n))
 }
 
+// (By `map_err` the refusal would be built by hand, in a closure.)
 fn compact_from(width: Width, at: usize, s: &[u8]) -> Answer<(Halves, usize)>
     ensures { result ≡ halved (leaf_from (Leaf.Compact width) at s.now) }
 {

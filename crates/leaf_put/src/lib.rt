@@ -1,5 +1,6 @@
 // Scalars, tags, counts and bit vectors from cells: whether the cells are there and fit, and the bytes of the value. Floats and signed integers are their bits, and
 // no bit of them is looked at. A byte past the end of the output is not written, so that a caller who lends none only learns how many there are.
+// The place `pos` stands beside the output, as it does in crate `put`, whose walk answers it.
 #![tactic(auto)]
 
 ghost use Rattle.std.specs.Prelude.{◌≡◌, ◌+◌, ◌-◌, ◌^◌, ◌≤◌, ◌<◌, min, length, take};

@@ -14,7 +14,7 @@ fn word(low: u8, high: u8) -> u16
     u16::from_le_bytes([low, high])
 }
 
-// The width of `a` bytes, if there is one.
+// The width of `a` bytes, if there is one. (`TryFrom` would need an error that says no more than None.)
 #[tactic(auto, unfolding(crate::specs::Nodes::width_named))]
 pub fn width_of(a: usize) -> Option<Width>
     ensures { result ≡ width_named a }

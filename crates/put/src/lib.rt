@@ -30,7 +30,7 @@ fn put_root(checked: &Checked, part: Part, cells: &[u64], out: &mut [u8]) -> Ans
     match part {
         Part::Root => put_item(checked, node, 0, cells, out, 0),
         Part::Items(k) => {
-            match node::node_at(checked.table, node) {
+            match checked.node_at(node) {
                 Node::Vector(a) => put_items(checked, a, k, 0, cells, out, 0),
                 _ => refuse(Reason::AppendRoot, 0),
             }

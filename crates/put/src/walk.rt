@@ -1,6 +1,7 @@
 // The writing walkers, over the cells as reading goes over bytes: the item writer calls the writer of the node's kind and is called back, with the table index
 // and the items left falling. Each item takes a cell or is refused, so work is bounded by the cells given, whatever a count says. How far the cells and the output
 // have been reached stands beside them, and in an answer: a record of both, lent on, would have to say on each refusal too how far it is.
+// `Puttable` speaks of what changes at each step, so a type for it would be made, and proved, at each call.
 ghost use Rattle.rules.specs.Put.{put};
 ghost use Rattle.rules.specs.Table.{ty_at};
 ghost use Rattle.rules.specs.Types.{array, option, result as result_type, pair, vector};
@@ -23,7 +24,7 @@ pub(crate) fn put_item(
     requires { Puttable checked.now.table.now node at cs.now pos }
     ensures { PutsAt at pos (put (ty_at checked.now.table.now node) at cs.now) out.old out.new result }
 {
-    match node::node_at(checked.table, node) {
+    match checked.node_at(node) {
         Node::Leaf(leaf) => put_leaf(leaf, at, cs, out, pos),
         Node::Option(a) => put_option(checked, a, at, cs, out, pos),
         Node::Result(a, b) => put_result(checked, a, b, at, cs, out, pos),

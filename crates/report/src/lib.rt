@@ -24,7 +24,8 @@ const UNREADABLE: u32 = 40;
 // No report is longer: a line of `ok` and four numbers, and a line for each of 4096 cells, all numbers of 20 digits.
 pub const MOST: usize = 86103;
 
-// The text so far: the lent memory, and where the text ends. That is past the memory where less than the text was lent.
+// The text so far: the lent memory, and where the text ends. That is past the memory where less than the text was lent. What each method asks is room for the
+// numbers of its own text, so it is no fact of the type.
 #[derive(Drop)]
 struct Writer<'a> {
     out: &'a mut [u8],

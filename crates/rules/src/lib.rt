@@ -27,7 +27,7 @@ pub enum Leaf {
 }
 
 // A node of the table, with its children's indices: of an array the number of items stands first. Unknown is a node that no kind allows: a case beside the kinds,
-// since what a walk does at each of them is one match, and an Option around it would be a match in each arm.
+// since `node_in` and the laws of tables speak of it as a node, and a walk is one match over all of them.
 #[derive(Clone, Copy)]
 pub enum Node {
     Leaf(Leaf),

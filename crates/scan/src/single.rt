@@ -1,4 +1,4 @@
-// A scalar or a tag under the limits.
+// A scalar or a tag under the limits. What it asks of the offset is a part of what the walkers ask, of this step's own bytes.
 ghost use Rattle.std.specs.Prelude.{◌+◌, ◌<◌, ◌^◌, length};
 ghost use Rattle.rules.specs.Scan.Landing.{Lands};
 ghost use Rattle.rules.specs.Scan.Pass.{leaf_pass};

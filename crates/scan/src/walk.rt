@@ -1,6 +1,7 @@
 // The table-driven walkers: the item walker calls the walker of the node's kind and is called back, with the table index and the items left falling. A vector's
-// items are a loop, so the stack depends on the table alone, whatever a message counts. The offset stands beside the rest of the message, which is handed on as
-// a part of the slice.
+// items are a loop, so the stack depends on the table alone, whatever a message counts. The offset, the rest of the message as a part of the slice, the limits in one
+// record by value and the lent cells are handed on side by side: the project is asked for these forms by name. `Walkable` speaks of what changes at each step, so a
+// type for it would be made, and proved, at each call.
 ghost use Rattle.rules.specs.Types.{option, result as result_type, pair, vector};
 ghost use Rattle.rules.specs.Scan.Landing.{Lands};
 ghost use Rattle.rules.specs.Scan.Pass.{pass_at, items};
@@ -31,7 +32,7 @@ impl<'a> Plan<'a> {
         if self.checked.feet[node] == 0 {
             return m.pass_units(at, 1, self.units[node], cells);
         }
-        match node::node_at(self.checked.table, node) {
+        match self.checked.node_at(node) {
             Node::Leaf(leaf) => scan_leaf(leaf, at, s, m, cells),
             Node::Option(a) => self.option(a, level, at, s, m, cells),
             Node::Result(a, b) => self.result(a, b, level, at, s, m, cells),
@@ -148,6 +149,7 @@ impl<'a> Plan<'a> {
         if self.checked.feet[node] == 0 {
             return m.pass_units(at, count, self.units[node], cells);
         }
+        // Where an item starts is known once the one before it has been walked, so no iterator hands out the rest.
         let mut rest = s;
         let mut end = at;
         let mut totals = m.totals;

@@ -1,7 +1,9 @@
 // A table that passed its check.
 ghost use Rattle.std.specs.Prelude.{◌≡◌, ◌-◌, ◌≤◌, ◌<◌};
-ghost use Rattle.rules.specs.Table.{check_table, fine, numbers_of, count};
+ghost use Rattle.rules.specs.Table.{check_table, fine, numbers_of, count, node_in};
 ghost use Rattle.rules.specs.Totals.{foot};
+
+use rules::Node;
 
 // The table, and the footprint of each node: 0 past the last one. The places are 64, as many as a table may have nodes, since nothing here allocates.
 #[derive(Clone, Copy)]
@@ -28,5 +30,12 @@ impl<'a> Checked<'a> {
         ensures few { result < 64 }
     {
         self.count() - 1
+    }
+
+    // Node `i`, or Unknown where the table is too short to have it.
+    pub fn node_at(&self, i: usize) -> Node
+        ensures { result ≡ node_in self.now.table.now i }
+    {
+        node::node_at(self.table, i)
     }
 }

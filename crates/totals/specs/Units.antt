@@ -114,7 +114,7 @@ module _ (tb : List ℕ) (G : Good tb) where
 
     -- (by the check's answer)
     pub feet_found : (l : List ℕ) → footprints_of tb ≡ Ok l → get_or l i 0 ≡ foot (ty_at tb i)
-    feet_found l e = ap (λ k. get_or k i 0) (footprints_found tb l (sym e)).1 ∙ feet_at
+    feet_found l e = ap (λ k. get_or k i 0) (footprints_found tb l e).1 ∙ feet_at
 
     -- what is found of a node from its footprint and its children's numbers
     module _ (f : ℕ → ℕ) (h : (j : ℕ) → j < i → f j ≡ unit_code (ty_at tb j)) where

@@ -72,7 +72,7 @@ fn narrow(length: Option<u64>) -> Option<u32>
     Some(length? as u32)
 }
 
-// The same in 64 bits.
+// The same in 64 bits. (Where it was `map(u64::from)`, the equation that the callers' contracts need did not close.)
 fn widen(length: Option<u32>) -> Option<u64>
     ensures { result ≡ length }
 {
@@ -85,7 +85,7 @@ fn measure(checked: &Checked) -> Option<u32>
 {
     let mut lengths = [None; 64];
     for i in 0..checked.count() {
-        lengths[i] = narrow(longest_of(node::node_at(checked.table, i), &lengths));
+        lengths[i] = narrow(longest_of(checked.node_at(i), &lengths));
     }
     lengths[checked.root()]
 }
@@ -142,7 +142,7 @@ pub fn count_units(checked: &Checked) -> [u64; 64]
 {
     let mut units = [0u64; 64];
     for i in 0..checked.count() {
-        units[i] = units_of(checked.feet[i], node::node_at(checked.table, i), &units);
+        units[i] = units_of(checked.feet[i], checked.node_at(i), &units);
     }
     units
 }
