@@ -1,5 +1,5 @@
 // Appends to a vector of bytes.
-use crate::report::{Tally, say_plan, say_refusal};
+use crate::report::Report;
 use rules::Answer;
 
 fn append(buffer: &mut [u8], used: usize, k: u64, cells: &[u64]) -> Answer<usize> {
@@ -47,33 +47,35 @@ fn after() -> [u8; 66] {
     buffer
 }
 
-fn grows(rt: &impl Print, tally: Tally) -> Tally {
+fn grows(report: &mut Report<impl Print>) {
     let mut buffer = before();
     let expected = after();
     let same = accepts(&mut buffer, 64, 1, &[200], 66, &expected);
-    say_plan(rt, same, b"63 bytes and one more");
-    tally.with(rt, same)
+    report.say_plan(same, b"63 bytes and one more");
+    report.count(same);
 }
 
 // A count that is as large as it can be: one more is refused, and none is not.
-fn full_and_one(rt: &impl Print, tally: Tally) -> Tally {
+fn full_and_one(report: &mut Report<impl Print>) {
     let head = b"\x03\xff\xff\xff\xff\xee\xee\xee";
     let mut buffer = [0x03, 0xff, 0xff, 0xff, 0xff, 0xee, 0xee, 0xee];
     let same = refuses(&mut buffer, 5, 1, &[200], head);
-    say_plan(rt, same, b"full count and one more");
-    say_refusal(rt, 33);
-    tally.with(rt, same)
+    report.say_plan(same, b"full count and one more");
+    report.say_refusal(33);
+    report.count(same);
 }
 
-fn full_and_none(rt: &impl Print, tally: Tally) -> Tally {
+fn full_and_none(report: &mut Report<impl Print>) {
     let head = b"\x03\xff\xff\xff\xff\xee\xee\xee";
     let mut buffer = [0x03, 0xff, 0xff, 0xff, 0xff, 0xee, 0xee, 0xee];
     let none = [0u64; 1];
     let same = accepts(&mut buffer, 5, 0, &none[..0], 5, head);
-    say_plan(rt, same, b"full count and none more");
-    tally.with(rt, same)
+    report.say_plan(same, b"full count and none more");
+    report.count(same);
 }
 
-pub(crate) fn plans(rt: &impl Print, tally: Tally) -> Tally {
-    full_and_none(rt, full_and_one(rt, grows(rt, tally)))
+pub(crate) fn plans(report: &mut Report<impl Print>) {
+    grows(report);
+    full_and_one(report);
+    full_and_none(report);
 }

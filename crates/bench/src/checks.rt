@@ -73,7 +73,7 @@ pub(crate) fn reads_and_writes(
     reads(table, message, limits, cells, charge, depth) && writes(table, cells, message)
 }
 
-// No plan's refusal has a place.
+// No plan's refusal has a place; the plans are given with the rules' numbers, so these are what is compared.
 fn is_refusal(y: Refusal, number: u32) -> bool {
     y.place == 0 && u32::from(y.reason) == number
 }
