@@ -1,8 +1,6 @@
 // The program: reads the table `wave.wtd` and the message `wave.scl` in its working directory, and prints the report on them.
 #![tactic(auto)]
 
-ghost use Rattle.io.specs.Counts.{IsPrefixLen};
-ghost use Rattle.std.specs.Prelude.{IfSome};
 ghost use Rattle.std.specs.Io.{ReadsAtMost};
 
 use report::MOST;
@@ -31,29 +29,27 @@ fn read_full(file: &mut impl Read, space: &mut [u8]) -> io::Result<usize>
     Ok(done)
 }
 
-// Reads a file into `space`, which is as long as the file may be, and answers how many bytes it has, or `None` where it is missing or too large. One more read tells
+// Reads a file into `space`, which is as long as the file may be, and answers its bytes, or `None` where it is missing or too large. One more read tells
 // whether the file ends there: it finds a byte if the file is too large. A file that can't be read, as a folder can't, fails at its first read.
-fn load(rt: &impl Files, name: &str, space: &mut [u8]) -> Option<usize>
-    ensures { IfSome result (λ size. IsPrefixLen size space.new) }
-{
+fn load<'a>(rt: &impl Files, name: &str, space: &'a mut [u8]) -> Option<&'a [u8]> {
     let mut file = fs::open(rt, name).ok()?;
     let size = read_full(&mut file, space).ok()?;
     let mut next = [0u8; 1];
     match file.read(&mut next) {
-        Ok(0) => Some(size),
+        Ok(0) => Some(&space[..size]),
         _ => None,
     }
 }
 
 // A report that can't be written is left out, and the run ends as ever.
 fn main(rt: HostRuntime) {
-    let mut table = [0u8; TABLE_MOST];
-    let mut message = [0u8; MESSAGE_MOST];
-    let table_size = load(&rt, "wave.wtd", &mut table);
-    let message_size = load(&rt, "wave.scl", &mut message);
+    let mut table_space = [0u8; TABLE_MOST];
+    let mut message_space = [0u8; MESSAGE_MOST];
+    let table = load(&rt, "wave.wtd", &mut table_space);
+    let message = load(&rt, "wave.scl", &mut message_space);
     let mut text = [0u8; MOST];
-    let length = match (table_size, message_size) {
-        (Some(t), Some(m)) => report::report(&table[..t], &message[..m], &mut text),
+    let length = match (table, message) {
+        (Some(table), Some(message)) => report::report(table, message, &mut text),
         _ => report::report_unreadable(&mut text),
     };
     let _ = rt.write_all(&text[..length]);
