@@ -2,6 +2,9 @@
 // its outcome is whether every field of the answer, and all memory that was lent, came back as the case says.
 #![tactic(auto)]
 
+ghost use Rattle.std.specs.Prelude.{◌≡◌, is_some};
+ghost use Rattle.cases.specs.Ops.{op_of};
+
 mod fields;
 mod memory;
 mod ops;
@@ -27,7 +30,9 @@ pub enum Op {
 
 impl Op {
     // The op of this format that a number stands for.
-    pub fn of(number: u8) -> Option<Op> {
+    pub fn of(number: u8) -> Option<Op>
+        ensures { result ≡ op_of number }
+    {
         match number {
             1 => Some(Op::CompactRead),
             2 => Some(Op::CompactWrite),
@@ -42,7 +47,9 @@ impl Op {
 }
 
 // Whether a number stands for an op of this format.
-pub fn known(number: u8) -> bool {
+pub fn known(number: u8) -> bool
+    ensures { result ≡ is_some (op_of number) }
+{
     Op::of(number).is_some()
 }
 

@@ -1,5 +1,8 @@
 // A function for each op: it takes the arguments and the answer from the body, calls the op's public function, and compares. What the fields are stands above
 // each.
+ghost use Rattle.std.specs.Prelude.{◌≡◌, None, Err};
+ghost use Rattle.cases.specs.Ops.{op_of};
+
 use crate::fields::Fields;
 use crate::memory::is_encoded;
 use crate::{Failure, Op};
@@ -245,7 +248,9 @@ impl Op {
     }
 }
 
-// The same from the number of an op.
-pub fn run(number: u8, body: &[u8]) -> Result<(), Failure> {
+// The same from the number of an op, if it is one.
+pub fn run(number: u8, body: &[u8]) -> Result<(), Failure>
+    ensures { op_of number ≡ None → result ≡ Err Failure.Unknown }
+{
     Op::of(number).ok_or(Failure::Unknown)?.run(body)
 }

@@ -2,6 +2,7 @@
 use Rattle.std.specs.Prelude.{List, ◌++◌, [], ◌≡◌, ℕ, ◌+◌, ◌-◌, ◌≤◌, length, drop, take}
 use Rattle.std.proofs.Common.{ap, ap₂, sym, ◌∙◌, arith, append_assoc, append-nil, length-drop, length-append, length-take-le, drop_of_length-le, drop_at, drop-drop}
 use Rattle.std.specs.List.{copy_within}
+use Rattle.std.proofs.lemmas.List.{take-append-drop}
 use Rattle.std.proofs.lemmas.List.Edits.{sets}
 use Rattle.std.proofs.Math.Seq.{take_at}
 use Rattle.rules.specs.Basics.{onto}
@@ -15,6 +16,14 @@ use Rattle.rules.proofs.Laws.Places.{sets_onto, part_rest, drop_take}
 -- the encoding of a count
 pub head_put : {count : ℕ} {v : Halves} (a : List ℕ) {b : List ℕ} → v ≡ record { low = count; high = 0 } → b ≡ sets a 0 (compact_bytes (whole v.low v.high)) → b ≡ sets a 0 (compact_bytes count)
 head_put {count} {v} a {b} e f = let w : whole v.low v.high ≡ count = ap (λ (x : Halves). whole x.low x.high) e ∙ omega arith in f ∙ ap (λ (x : ℕ). sets a 0 (compact_bytes x)) w
+
+-- bytes that are moved to where they are
+pub unmoved : (buf : List ℕ) (old used new : ℕ) → old ≡ new → buf ≡ copy_within buf old used new
+unmoved buf old used new e =
+    let n = used - old in
+    let rest : take n (drop old buf) ++ drop (old + n) buf ≡ drop old buf =
+    ap (λ (l : List ℕ). take n (drop old buf) ++ l) (sym (drop-drop n old buf)) ∙ take-append-drop n (drop old buf) in
+    rw (← e) (sym (append_assoc (take old buf) (take n (drop old buf)) (drop (old + n) buf) ∙ ap (λ (l : List ℕ). take old buf ++ l) rest ∙ take-append-drop old buf))
 
 -- a is the buffer with the bytes behind the old head moved, and H the new head
 pub replaced : (buf a b H : List ℕ) (used old new : ℕ) → used ≤ length buf → old ≤ used → new ≡ length H → new + (used - old) ≤ length buf

@@ -97,7 +97,10 @@ fn replace_head(buf: &mut [u8], used: usize, heads: Heads)
     requires { Replaces buf.old used heads }
     ensures { buf.new ≡ onto (compact_bytes heads.count ++ drop heads.old (take used buf.old)) buf.old }
 {
-    buf.copy_within(heads.old..used, heads.new);
+    // Bytes that stay where they are are not gone through, so that an append costs no more than its items unless the head grows.
+    if heads.old != heads.new {
+        buf.copy_within(heads.old..used, heads.new);
+    }
     compact_put::put(Halves::from(heads.count), buf, 0);
 }
 

@@ -1,7 +1,7 @@
 -- Cells that are stored one after another, and how many items go into a room.
 use Rattle.std.specs.Prelude.{List, ◌++◌, ◌∷◌, ◌≡◌, refl, ℕ, zero, suc, ◌+◌, ◌-◌, ◌*◌, ◌/◌, ◌≤◌, ◌<◌, min, length, drop, take, Err}
-use Rattle.std.proofs.Common.{ap, sym, ◌∙◌, arith, le-div_iff_mul-le, div-lt_iff_lt-mul, div-le_self}
-use Rattle.std.proofs.lemmas.List.{length-replicate}
+use Rattle.std.proofs.Common.{ap, sym, ◌∙◌, arith, le-div_iff_mul-le, div-lt_iff_lt-mul, div-le_self, add-one, drop_of_length-le, set, get_or}
+use Rattle.std.proofs.lemmas.List.{length-replicate, drop_more}
 use Rattle.std.proofs.lemmas.List.Edits.{sets}
 use Rattle.rules.proofs.Laws.Places.{part_set}
 use Rattle.rules.specs.Refusals.{room_at}
@@ -26,6 +26,13 @@ room_ends n m room z h =
     let p : 0 < n = omega arith in
     let e : room < (m + 1) * n = (div-lt_iff_lt-mul p).0 (omega arith) in
     omega arith
+
+-- the cells left, once the next one is stored, and where none is left
+pub stored_next : (i k : ℕ) (l new : List ℕ) → k < length new → sets (set l i (get_or new k 0)) (i + 1) (drop (k + 1) new) ≡ sets l i (drop k new)
+stored_next i k l new h = rw (drop_more new k 0 h, add-one i) refl
+
+pub stored_all : (i k : ℕ) (l new : List ℕ) → length new ≤ k → sets l i (drop k new) ≡ l
+stored_all i k l new h = rw (drop_of_length-le new {i = k} h) refl
 
 -- zeros that were filled in: j is the place, or the end, and k is how many go in
 pub zeros_filled : (n i j k : ℕ) (l : List ℕ) → j ≡ min i (length l) → k ≡ min n (length l - j) → take j l ++ (zeros k ++ drop k (drop j l)) ≡ sets l i (zeros n)

@@ -2,12 +2,26 @@
 // past the end of what was lent is not written: so one walker decides, with none lent, and then fills.
 #![tactic(auto)]
 
-ghost use Rattle.std.specs.Prelude.{◌≡◌, ◌+◌, ◌-◌, ◌*◌};
+ghost use Rattle.std.specs.Prelude.{◌≡◌, ◌+◌, ◌-◌, ◌*◌, Err};
 ghost use Rattle.std.proofs.lemmas.List.Edits.{sets};
 ghost use Rattle.rules.specs.Scan.Pass.{plain_pass, entry_pass, landed};
 ghost use Rattle.rules.specs.Scan.Units.{units_at, zeros};
 
-use rules::{Answer, Limits, Reason, Totals, refuse};
+use rules::{Answer, Limits, Numbered, Reason, Totals, refuse};
+
+// Writes cells from a place on, as far as they were lent. There are one or two, so they go one by one: a copy of as few is a call that costs more than they do.
+fn store(cells: &mut [u64], at: u64, new: &[u64])
+    ensures { cells.new ≡ sets cells.old at new.now }
+{
+    let mut i = at as usize;
+    for cell in new {
+        if cells.len() <= i {
+            return;
+        }
+        cells[i] = *cell;
+        i += 1;
+    }
+}
 
 // Writes n cells 0, as far as they were lent, whatever n is.
 fn store_zeros(cells: &mut [u64], at: u64, n: u64)
@@ -23,6 +37,13 @@ fn store_zeros(cells: &mut [u64], at: u64, n: u64)
 pub struct Meter {
     pub limits: Limits,
     pub totals: Totals,
+}
+
+// The answer of a walk that is refused by a number, also by one that no reason stands for. The walks' own refusals are made by `rules::refuse`.
+pub fn refused(number: u32, place: usize) -> Result<(Totals, usize), Numbered>
+    ensures { result ≡ Err (record { number = number; place = place }) }
+{
+    Err(Numbered { number, place })
 }
 
 impl Meter {
@@ -50,7 +71,7 @@ impl Meter {
         if self.limits.cells < t.cells || room < n {
             return refuse(Reason::Cells, at);
         }
-        number::copy_at(cells, t.cells as usize, new);
+        store(cells, t.cells, new);
         Ok((
             Totals {
                 cells: t.cells + n,
@@ -85,7 +106,7 @@ impl Meter {
         if self.room() <= extra {
             return refuse(Reason::Cells, at);
         }
-        number::copy_at(cells, t.cells as usize, &[n]);
+        store(cells, t.cells, &[n]);
         let depth = t.depth.max(level + 1);
         Ok((
             Totals {

@@ -1,10 +1,12 @@
 -- Bytes, lowest first, as std reads them into a word, and as the loop of `put` writes them.
 use Rattle.std.proofs.Common.{◌≡◌, ℕ, zero, suc, ◌+◌, ◌-◌, ◌*◌, ◌/◌, ◌%◌, ◌^◌, ◌≤◌, ◌<◌, min, List, [], ◌∷◌, ◌++◌, length, drop, take, get_or, set, slice_index, refl, ap, sym, ◌∙◌, arith, add-one, pow-suc, mul_comm, take_all, length-append, append-nil, drop_of_length-le, length-drop, length-take-le, get_or-drop}
 use Rattle.std.proofs.Math.Decide.{dec_le}
+use Rattle.std.proofs.Math.Nat.{add-mul-mod_self_left, mod-eq_of_lt}
 use Rattle.std.specs.Int.{w64, byte_worth, sum_through, from_le_bytes}
 use Rattle.std.proofs.lemmas.List.Edits.{sets}
 use Rattle.rules.specs.Bytes.{le_value, le_bytes}
-use Rattle.rules.proofs.Laws.Bytes.{pow8, length_bytes}
+use Rattle.rules.specs.Basics.{Under}
+use Rattle.rules.proofs.Laws.Bytes.{pow8, length_bytes, value_lt}
 use Rattle.rules.proofs.Laws.Places.{sets_onto, part_set}
 use Rattle.number.specs.Laws.{value_split}
 
@@ -56,6 +58,15 @@ word_value m n v t front en ef ev =
     let said : v ≡ from_le_bytes w64 bytes = rw ef at ev in
     said ∙ value_through 7 bytes ∙ ap le_value (take_all 8 bytes all) ∙ value_append (take n t) (drop n none) (value_drop n none refl)
     ∙ ap (λ (k : ℕ). le_value (take k t)) en ∙ ap le_value (take_min (min m 8) t)
+
+-- where eight bytes are there: what they say, and of it the lowest n bytes
+pub eight_value : (n v r : ℕ) (t eight : List ℕ) → Under 256 t → 8 ≤ length t → eight ≡ take 8 t → v ≡ from_le_bytes w64 eight → r ≡ v % 2 ^ (8 * min n 8) → r ≡ le_value (take (min n 8) t)
+eight_value n v r t eight u h ee ev er =
+    let m = min n 8 in
+    let sum : m + (8 - m) ≡ 8 = omega arith in
+    let all : le_value (take 8 t) ≡ le_value (take m t) + 2 ^ (8 * m) * le_value (take (8 - m) (drop m t)) = rw sum at (value_split m (8 - m) t) in
+    let said : v ≡ le_value (take 8 t) = rw ee at ev ∙ value_through 7 (take 8 t) ∙ ap le_value (take_all 8 (take 8 t) (omega (arith, length-take-le 8 t h))) in
+    er ∙ ap (λ (x : ℕ). x % 2 ^ (8 * m)) (said ∙ all) ∙ add-mul-mod_self_left (le_value (take m t)) (2 ^ (8 * m)) _ ∙ mod-eq_of_lt (value_lt m t u)
 
 -- ---- writing
 

@@ -51,6 +51,11 @@ halves_read n low high k s u ek el eh =
     let hi : high ≡ le_value (take (min n 16) s) / 2 ^ 64 = omega arith in
     ap₂ (λ (x y : ℕ). record { low = x; high = y }) lo hi
 
+pub narrow_read : (n low : ℕ) (v : Halves) (s : List ℕ) → Under 256 s → n ≤ 8 → low ≡ le_value (take (min n 8) s) → v ≡ record { low = low; high = 0 } → v ≡ halves (le_value (take (min n 16) s))
+narrow_read n low v s u h el ev =
+    let none : min (n - 8) 8 ≡ 0 = omega arith in
+    ev ∙ halves_read n low 0 (min (min n 8) (length s)) s u refl el (rw none (unfold le_value in refl))
+
 -- ---- writing
 
 -- a place past 2^64 - 1 is as good as that one: both are past the end

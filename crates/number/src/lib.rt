@@ -5,17 +5,28 @@
 mod copy;
 mod wide;
 
-ghost use Rattle.std.specs.Prelude.{◌≡◌, min, take};
+ghost use Rattle.std.specs.Prelude.{◌≡◌, ◌*◌, ◌%◌, ◌^◌, min, take};
 ghost use Rattle.std.proofs.lemmas.List.Edits.{sets};
 ghost use Rattle.rules.specs.Bytes.{le_value, le_bytes};
 
 pub use copy::copy_at;
 pub use wide::{halves, put_halves};
 
+// What the lowest n bytes of x say.
+fn lowest(x: u64, n: usize) -> u64
+    ensures { result ≡ x % 2 ^ (8 * min n 8) }
+{
+    if n < 8 { x % (1 << (8 * n)) } else { x }
+}
+
 // The number that the first n bytes of t say, of eight at most. A byte that is not there, or not asked for, counts as 0.
 pub fn word(t: &[u8], n: usize) -> u64
     ensures { result ≡ le_value (take (min n 8) t.now) }
 {
+    // Where eight bytes are there, they are read at once: a copy of a few is a call, which costs more than all else here.
+    if let Some(eight) = t.first_chunk() {
+        return lowest(u64::from_le_bytes(*eight), n);
+    }
     let n = n.min(8).min(t.len());
     let mut bytes = [0; 8];
     bytes[..n].copy_from_slice(&t[..n]);

@@ -10,6 +10,10 @@ use rules::Halves;
 pub fn halves(t: &[u8], n: usize) -> Halves
     ensures { result ≡ halves (le_value (take (min n 16) t.now)) }
 {
+    // Most numbers have eight bytes or fewer, and a second word of none would cost as much as the first.
+    if n <= 8 {
+        return Halves::from(word(t, n));
+    }
     let below = n.min(8).min(t.len());
     Halves {
         low: word(t, n),

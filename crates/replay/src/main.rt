@@ -66,7 +66,8 @@ fn run_body(file: &mut impl Read, op: Op, length: usize) -> Result<Outcome, Dama
     let mut room = [0u8; LONGEST_BODY];
     let body = room.get_mut(..length).ok_or(Damage::Misfit(op))?;
     fill(file, body)?;
-    match op.run(body) {
+    // By its number, as whoever has no `Op` runs it: so what is printed is said of `cases::run` too.
+    match cases::run(op as u8, body) {
         Ok(()) => Ok(Outcome::Same),
         Err(Failure::Differs(field)) => Ok(Outcome::Differs(op, field)),
         Err(Failure::Misfit) => Err(Damage::Misfit(op)),

@@ -3,6 +3,7 @@ use Rattle.std.specs.Prelude.{ℕ, Result}
 use Rattle.rules.specs.declared.Reason.TheVariants.{TableMark, TableSize, TableNode, TableFootprint, Short, Tag, CompactPrefix, CompactRange, BitCount, Depth, Memory, Cells, BytesLeft, CellsShort, CellUnfit, OutputSmall, CellsLeft, AppendRoot, AppendUsed, AppendHead, AppendCount}
 pub use Rattle.rules.specs.declared.Reason.{Reason}
 pub use Rattle.rules.specs.declared.Refusal.{Refusal}
+pub use Rattle.rules.specs.declared.Numbered.{Numbered}
 
 -- what every job answers: what it gives, or why it is refused
 abbrev pub Answer : Type 0 → Type 0
@@ -34,6 +35,10 @@ number_of AppendRoot = 30
 number_of AppendUsed = 31
 number_of AppendHead = 32
 number_of AppendCount = 33
+
+-- a refusal by its number
+abbrev pub in_numbers : Refusal → Numbered
+in_numbers y = record { number = number_of y.reason; place = y.place }
 
 -- ---- of a table; the place of the last two is the node's index
 

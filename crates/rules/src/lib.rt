@@ -3,7 +3,7 @@
 #![tactic(auto)]
 
 ghost use Rattle.std.specs.Prelude.{◌≡◌, Err};
-ghost use Rattle.rules.specs.Refusals.{because, number_of};
+ghost use Rattle.rules.specs.Refusals.{because, number_of, in_numbers};
 
 // A width of a number, in bytes.
 #[derive(Clone, Copy)]
@@ -79,6 +79,24 @@ impl From<Reason> for u32 {
 pub struct Refusal {
     pub reason: Reason,
     pub place: usize,
+}
+
+// A refusal in numbers, as it is printed. Its number may also be one that no reason stands for, as a caller's own: `?` turns the jobs' refusals into such ones.
+#[derive(Clone, Copy, PartialEq, Eq, Debug)]
+pub struct Numbered {
+    pub number: u32,
+    pub place: usize,
+}
+
+impl From<Refusal> for Numbered {
+    ghost from_gives = { λ refusal numbered. numbered ≡ in_numbers refusal };
+
+    fn from(refusal: Refusal) -> Numbered {
+        Numbered {
+            number: refusal.reason.into(),
+            place: refusal.place,
+        }
+    }
 }
 
 // What every job answers.

@@ -1,6 +1,7 @@
 // The program: reads the table `wave.wtd` and the message `wave.scl` in its working directory, and prints the report on them.
 #![tactic(auto)]
 
+ghost use Rattle.std.specs.Prelude.{◌≤◌, length, IfSome};
 ghost use Rattle.std.specs.Io.{ReadsAtMost};
 
 use report::MOST;
@@ -31,7 +32,9 @@ fn read_full(file: &mut impl Read, space: &mut [u8]) -> io::Result<usize>
 
 // Reads a file into `space`, which is as long as the file may be, and answers its bytes, or `None` where it is missing or too large. One more read tells
 // whether the file ends there: it finds a byte if the file is too large. A file that can't be read, as a folder can't, fails at its first read.
-fn load<'a>(rt: &impl Files, name: &str, space: &'a mut [u8]) -> Option<&'a [u8]> {
+fn load<'a>(rt: &impl Files, name: &str, space: &'a mut [u8]) -> Option<&'a [u8]>
+    ensures { IfSome result (λ bytes. length bytes.now ≤ length space.old) }
+{
     let mut file = fs::open(rt, name).ok()?;
     let size = read_full(&mut file, space).ok()?;
     let mut next = [0u8; 1];

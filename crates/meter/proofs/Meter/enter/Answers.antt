@@ -20,4 +20,4 @@ pub returns : goal.returns
 returns c =
     lands _ _ _ (c.args.n ∷ []) _ _ _
     (entry_passes _ _ _ _ (omega (arith, c.if-self-level.false)) (rw (← c.saturating_add-total.ensures) c.if-self-total.false) (omega (arith, c.room.ensures, c.if-room-extra.false)))
-    (same_done _ _ _ _ _ _ c.max-depth.ensures c.saturating_add-total.ensures) c.copy_at.ensures
+    (same_done _ _ _ _ _ _ c.max-depth.ensures c.saturating_add-total.ensures) c.store.ensures

@@ -9,4 +9,4 @@ returns-then-self-t c =
 
 pub returns : goal.returns
 returns c =
-    lands _ _ _ c.args.new.now _ _ _ (plain_passes _ _ _ c.args.new.now _ (omega (arith, c.room-room.ensures))) refl c.copy_at.ensures
+    lands _ _ _ c.args.new.now _ _ _ (plain_passes _ _ _ c.args.new.now _ (omega (arith, c.room-room.ensures))) refl c.store.ensures
