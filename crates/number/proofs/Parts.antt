@@ -51,6 +51,7 @@ halves_read n low high k s u ek el eh =
     let hi : high ≡ le_value (take (min n 16) s) / 2 ^ 64 = omega arith in
     ap₂ (λ (x y : ℕ). record { low = x; high = y }) lo hi
 
+-- eight bytes at most: one word, and no high half
 pub narrow_read : (n low : ℕ) (v : Halves) (s : List ℕ) → Under 256 s → n ≤ 8 → low ≡ le_value (take (min n 8) s) → v ≡ record { low = low; high = 0 } → v ≡ halves (le_value (take (min n 16) s))
 narrow_read n low v s u h el ev =
     let none : min (n - 8) 8 ≡ 0 = omega arith in

@@ -1,4 +1,4 @@
--- `number::word` meets its contract: std reads the bytes that are there, and zeros. Assumes nothing.
+-- `number::word` meets its contract: std reads eight bytes, and what was not asked for is taken off; or the bytes that are there, and zeros. Assumes nothing.
 use Rattle.std.proofs.Common.{arith}
 use Rattle.number.proofs.Bytes.{word_value, eight_value}
 use Rattle.number.proofs.word.Goals as goal
